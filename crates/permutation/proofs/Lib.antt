@@ -1,0 +1,9 @@
+pub mod Tests
+pub mod Digits
+pub mod Choosing
+pub mod Flagged
+pub mod Laws
+pub mod Lists
+pub mod One
+pub mod Decoding
+pub mod Encoding

@@ -1,0 +1,193 @@
+// The permutation field of a frameless word: which registers were pushed, and in what order.
+ghost use mathlib.Core.Path.{_≡_};
+ghost use Prim.Native.Nat.{suc, _≤_, _<_};
+ghost use lib.ListN.{take, drop};
+ghost use lib.Dec.{eqb};
+ghost use Rattle.permutation.specs.Permutation.{accepts, decodeOf, encodeOf, told, toldEncoded, decodedNumber, encodedNumber, member, every};
+ghost use Rattle.permutation.specs.Flags.{unused, zeros, stepOf};
+
+// The weights of the digits, by the count of registers.
+pub const WEIGHTS: [[u32; 6]; 7] = [
+    [0, 0, 0, 0, 0, 0],
+    [1, 0, 0, 0, 0, 0],
+    [5, 1, 0, 0, 0, 0],
+    [20, 4, 1, 0, 0, 0],
+    [60, 12, 3, 1, 0, 0],
+    [120, 24, 6, 2, 1, 0],
+    [120, 24, 6, 2, 1, 0],
+];
+
+pub enum Decoded {
+    Accepted,
+    Refused,
+}
+
+// The registers' numbers, in the order in which they are popped; all 0 where the encoding is refused.
+pub struct Permutation {
+    pub decoded: Decoded,
+    pub registers: [u8; 6],
+}
+
+pub enum Encoded {
+    Encoding(u32),
+    Refused,
+}
+
+impl Decoded {
+    pub fn number(self) -> u32
+        ensures { λ r. ⌜ r ≡ decodedNumber self ⌝ }
+    {
+        match self {
+            Decoded::Accepted => 0,
+            Decoded::Refused => 23,
+        }
+    }
+}
+
+impl Encoded {
+    pub fn number(self) -> u32
+        ensures { λ r. ⌜ r ≡ encodedNumber self ⌝ }
+    {
+        match self {
+            Encoded::Encoding(_) => 0,
+            Encoded::Refused => 28,
+        }
+    }
+}
+
+pub fn decode_permutation_6(count: u32, encoding: u32) -> Permutation
+    ensures { λ r. ⌜ told r ≡ decodeOf count encoding ⌝ }
+{
+    let mut registers = [0u8; 6];
+    if !is_accepted(count, encoding) {
+        return Permutation {
+            decoded: Decoded::Refused,
+            registers,
+        };
+    }
+    let n = count as usize;
+    let row = WEIGHTS[n];
+    let mut used = [0u8; 6];
+    let mut rest = encoding;
+    let mut i = 0;
+    while i < n {
+        let step = step_of(row[i]);
+        let mut r = 0;
+        // The digit is counted down as its weight is taken off, so nothing is divided.
+        let found = loop {
+            if used[r] == 0 {
+                if rest < step {
+                    break r;
+                }
+                rest -= step;
+            }
+            r += 1;
+        };
+        used[found] = 1;
+        registers[i] = (found + 1) as u8;
+        i += 1;
+    }
+    Permutation {
+        decoded: Decoded::Accepted,
+        registers,
+    }
+}
+
+// The first refused encoding is six times the first weight.
+fn is_accepted(count: u32, encoding: u32) -> bool
+    ensures { λ r. ⌜ r ≡ accepts count encoding ⌝ }
+{
+    if 6 < count {
+        return false;
+    }
+    if count == 0 {
+        return true;
+    }
+    let row = WEIGHTS[count as usize];
+    if encoding < 6 * row[0] { true } else { false }
+}
+
+fn step_of(weight: u32) -> u32
+    ensures { λ r. ⌜ r ≡ stepOf weight ⌝ }
+{
+    if weight == 0 { 1 } else { weight }
+}
+
+pub fn encode_permutation_6(count: u32, registers: [u8; 6]) -> Encoded
+    ensures { λ r. ⌜ toldEncoded r ≡ encodeOf count registers ⌝ }
+{
+    if 6 < count {
+        return Encoded::Refused;
+    }
+    let n = count as usize;
+    let row = WEIGHTS[n];
+    let mut used = [0u8; 6];
+    let mut sum: u32 = 0;
+    let mut i = 0;
+    while i < n {
+        let x = registers[i];
+        if !is_unused(used, x) {
+            return Encoded::Refused;
+        }
+        let at = place(x);
+        sum += row[i] * rank(used, at);
+        used[at] = 1;
+        i += 1;
+    }
+    if are_zeros(registers, n) {
+        Encoded::Encoding(sum)
+    } else {
+        Encoded::Refused
+    }
+}
+
+// Whether x names a register that is not used yet.
+fn is_unused(used: [u8; 6], x: u8) -> bool
+    ensures { λ r. ⌜ r ≡ member x (unused used) ⌝ }
+{
+    if x == 0 {
+        return false;
+    }
+    if 6 < x {
+        return false;
+    }
+    used[place(x)] == 0
+}
+
+// Where the flag of register x stands.
+fn place(x: u8) -> usize
+    requires { ⌜ 0 < x ⌝ }
+    ensures { λ r. ⌜ suc r ≡ x ⌝ }
+{
+    (x - 1) as usize
+}
+
+// How many registers before a place are unused.
+fn rank(used: [u8; 6], at: usize) -> u32
+    requires { ⌜ at ≤ 6 ⌝ }
+    ensures { λ r. ⌜ (r ≡ zeros (take at used)) × (r ≤ 6) ⌝ }
+{
+    let mut n: u32 = 0;
+    let mut i = 0;
+    while i < at {
+        if used[i] == 0 {
+            n += 1;
+        }
+        i += 1;
+    }
+    n
+}
+
+// Whether nothing is listed from a place on.
+fn are_zeros(registers: [u8; 6], from: usize) -> bool
+    ensures { λ r. ⌜ r ≡ every (eqb 0) (drop from registers) ⌝ }
+{
+    let mut i = from;
+    while i < 6 {
+        if registers[i] != 0 {
+            return false;
+        }
+        i += 1;
+    }
+    true
+}

@@ -1,0 +1,74 @@
+-- Reading, over the width: a number is its low bytes and, above them, its high bytes; a read is granted or refused; a part of the
+-- bytes reads as the whole further on.
+-- Assumes nothing.
+use Prim.Native.Nat.{ℕ, zero, suc, _+_, _-_, _*_, _^_, _≤_, _<_}
+use mathlib.Core.Path.{_≡_, refl, ap, sym, _∙_}
+use mathlib.Core.Bool.{true, false}
+use mathlib.Core.List.{List}
+use native.Mathlib.Nat.{le-refl, zero-add, add-zero, suc-add, add-suc, one-mul, mul-assoc, pow-suc, mul-comm}
+use native.Mathlib.Omega.{arith}
+use native.Mathlib.Decide.{decLe}
+use borrow.Author.Tests.{le-leb, lt-leb, leb-true, leb-false}
+use lib.ListN.{length, getD, take, drop, length-drop}
+use lib.Seq.{getD-drop, take-all}
+use Rattle.reader.specs.Reader.{Told, value, outside, numberAt, grantedOf, readOf, Bytes}
+
+regroup : (a x p y : ℕ) → a + 256 * (x + p * y) ≡ a + 256 * x + p * 256 * y
+regroup a x p y = omega (arith, ap (λ (k : ℕ). k * y) (mul-comm p 256) ∙ mul-assoc 256 p y)
+
+-- a number of m + n bytes is its m low bytes and, above them, its n high bytes
+pub split : (m n : ℕ) (s : List ℕ) (o : ℕ) → numberAt (m + n) s o ≡ numberAt m s o + 256 ^ m * numberAt n s (o + m)
+unfolding numberAt
+split zero n s o = simp (zero-add, one-mul, add-zero)
+split (suc m) n s o =
+    simp (suc-add, split m n s (suc o), add-suc, pow-suc)
+    (regroup (getD s o 0) (numberAt m s (suc o)) (256 ^ m) (numberAt n s (suc (o + m))))
+
+pub one-byte : (s : List ℕ) (o : ℕ) → numberAt 1 s o ≡ getD s o 0
+unfolding numberAt
+one-byte s o = omega arith
+
+-- a number of n bytes is below 256 to the n
+pub bounded : (s : List ℕ) → Bytes s → (n o : ℕ) → numberAt n s o < 256 ^ n
+unfolding numberAt
+bounded s b zero o = omega arith
+bounded s b (suc n) o = simp pow-suc (omega (arith, b o, bounded s b n (suc o)))
+
+module _ (n : ℕ) (s : List ℕ) (o : ℕ) where
+  -- the test and the sum that it stands for
+  pub fits : grantedOf n s o ≡ true → o + n ≤ length s
+  unfolding grantedOf
+  fits e = leb-true (o + n) (length s) e
+
+  pub fits-not : grantedOf n s o ≡ false → length s < o + n
+  unfolding grantedOf
+  fits-not e = leb-false (o + n) (length s) e
+
+  -- a read is granted exactly if its bytes lie in the list
+  pub granted : o + n ≤ length s → readOf n s o ≡ value (numberAt n s o)
+  unfolding readOf grantedOf
+  granted h = simp (le-leb _ _ h)
+
+  pub refused : length s < o + n → readOf n s o ≡ outside
+  unfolding readOf grantedOf
+  refused h = simp (lt-leb _ _ h)
+
+-- a part that starts at p: what is read in it is read in the whole, p further on
+pub part : (n p : ℕ) (s : List ℕ) (o : ℕ) → numberAt n (drop p s) o ≡ numberAt n s (p + o)
+unfolding numberAt
+part zero p s o = refl
+part (suc n) p s o = simp (getD-drop, part n p s (suc o), add-suc)
+
+pub read-part : (n p : ℕ) (s : List ℕ) (o : ℕ) → p ≤ length s → readOf n (drop p s) o ≡ readOf n s (p + o)
+read-part n p s o h = by-room (decLe (p + o + n) (length s))
+  where
+    by-room : Dec (p + o + n ≤ length s) → readOf n (drop p s) o ≡ readOf n s (p + o)
+    by-room (yes r) = granted n (drop p s) o (simp length-drop (omega arith)) ∙ ap value (part n p s o) ∙ sym (granted n s (p + o) r)
+    by-room (no r) = refused n (drop p s) o (simp length-drop (omega arith)) ∙ sym (refused n s (p + o) (omega arith))
+
+-- `&s[p..]`, as a callee's contract has it
+pub tail : (p : ℕ) (s : List ℕ) → take (length s - p) (drop p s) ≡ drop p s
+tail p s = take-all (length s - p) (drop p s) (simp length-drop (le-refl _))
+
+pub read-tail : (n p : ℕ) (s : List ℕ) (o : ℕ) → p ≤ length s → readOf n (take (length s - p) (drop p s)) o ≡ readOf n s (p + o)
+read-tail n p s o h = ap (λ (l : List ℕ). readOf n l o) (tail p s) ∙ read-part n p s o h

@@ -1,0 +1,43 @@
+-- Reading a little-endian number, over its width n in bytes: document 01, "Section layout".
+-- Assumes nothing.
+use Prim.Native.Nat.{ℕ, zero, suc, _+_, _*_, _<_}
+use mathlib.Core.List.{List}
+use mathlib.Core.Bool.{Bool, true, false, cond}
+use lib.ListN.{length, getD}
+use lib.Dec.{leb}
+use Rattle.reader.specs.declared.Read16.{Read16}
+use Rattle.reader.specs.declared.Read32.{Read32}
+use Rattle.reader.specs.declared.Read64.{Read64}
+
+-- the number whose n bytes start at offset o, least significant first
+unfoldable pub numberAt : ℕ → List ℕ → ℕ → ℕ
+numberAt zero s o = 0
+numberAt (suc n) s o = getD s o 0 + 256 * numberAt n s (suc o)
+
+-- a read of n bytes at o is granted exactly if o + n is at most the length; whole numbers, so no sum wraps
+unfoldable pub grantedOf : ℕ → List ℕ → ℕ → Bool
+grantedOf n s o = leb (o + n) (length s)
+
+-- what a read answers, at every width
+pub data Told : Type 0 where
+  value : ℕ → Told
+  outside : Told
+
+unfoldable pub readOf : ℕ → List ℕ → ℕ → Told
+readOf n s o = cond (grantedOf n s o) (value (numberAt n s o)) outside
+
+abbrev pub told16 : Read16 → Told
+told16 (Read16.Value x) = value x
+told16 Read16.Outside = outside
+
+abbrev pub told32 : Read32 → Told
+told32 (Read32.Value x) = value x
+told32 Read32.Outside = outside
+
+abbrev pub told64 : Read64 → Told
+told64 (Read64.Value x) = value x
+told64 Read64.Outside = outside
+
+-- the numbers of the list are bytes
+abbrev pub Bytes : List ℕ → Type 0
+Bytes s = (i : ℕ) → getD s i 0 < 256
