@@ -49,12 +49,13 @@ unfolding rows
 loop-holds c =
     let a = c .before .before .before .args in
     let n = a .count in
-    let b = below (c .before) in
-    (b .count,
-    start (weights n) (a .encoding) (getD bounds n 0)
-    (λ h.
-    let p : 0 < n = omega (arith, length-take n (getD rows n [])) in
-    (row-radix n p (b .count), b .small p)))
+    let b = below (c .before) in (
+      b .count,
+      start (weights n) (a .encoding) (getD bounds n 0)
+          (λ h.
+          let p : 0 < n = omega (arith, length-take n (getD rows n [])) in
+          (row-radix n p (b .count), b .small p)),
+    )
 
 loop2-holds : tie.Need-loop2-holds Inv-loop2 μ-loop2 Inv-loop μ-loop
 unfolding rows
@@ -88,11 +89,12 @@ loop-again c =
     let m = c .before .before .loop2 in
     let g : c .before .before .before .step-of .result ≡ stepOf (getD ws (l .i) 0) =
     c .before .before .before .step-of .ensures
-    ∙ ap stepOf (sym (getD-take (a .count) (getD rows (a .count) []) (l .i) 0 (c .before .before .before .before .loop-test .taken))) in
-    (l .inv .0,
-    rw (add-one (m .r), add-one (l .i))
-    (next ws (a .encoding) (l .registers) (l .used) (l .rest) (l .i) (l .inv .1) h (omega arith) (m .r) (m .rest)
-    (subst (λ (k : ℕ). Scan (l .used) k (l .rest) (m .rest) (m .r)) g (m .inv .1)) (c .before .if2 .taken) (omega (arith, g))))
+    ∙ ap stepOf (sym (getD-take (a .count) (getD rows (a .count) []) (l .i) 0 (c .before .before .before .before .loop-test .taken))) in (
+      l .inv .0,
+      rw (add-one (m .r), add-one (l .i))
+          (next ws (a .encoding) (l .registers) (l .used) (l .rest) (l .i) (l .inv .1) h (omega arith) (m .r) (m .rest)
+          (subst (λ (k : ℕ). Scan (l .used) k (l .rest) (m .rest) (m .r)) g (m .inv .1)) (c .before .if2 .taken) (omega (arith, g))),
+    )
 
 returns-2 : tie.Need-returns-2 Inv-loop2 μ-loop2 Inv-loop μ-loop
 unfolding rows

@@ -1,0 +1,4 @@
+pub mod KindsX86
+pub mod KindsArm64
+pub mod Header
+pub mod One

@@ -1,0 +1,44 @@
+-- What an opcode word of arm64 says: document 01, "Opcode words".
+-- Assumes nothing.
+use Prim.Native.Nat.{ℕ, _+_, _*_}
+use mathlib.Core.Bool.{Bool, cond}
+use mathlib.Core.List.{List, [], _∷_}
+use lib.Dec.{eqb}
+use Rattle.opcodes.specs.Bits.{bits, bit, kindOf, specificOf}
+use Rattle.opcodes.specs.declared.arm64.«OpcodeArm64».{«OpcodeArm64»}
+
+-- The cases with their values. The nine pairs are x19/x20, x21/x22, x23/x24, x25/x26, x27/x28, d8/d9, d10/d11, d12/d13, d14/d15.
+pub data Word : Type 0 where
+  null : Word
+  frameless : (size : ℕ) → Word
+  dwarf : (low24 : ℕ) → Word
+  frameBased : (count : ℕ) (pairs : List Bool) → Word
+  unrecognized : (kind : ℕ) → Word
+
+-- Bits 0 to 4 are the x pairs, and bits 5 to 8 the d pairs.
+abbrev pub pairs : ℕ → List Bool
+pairs w = bit 0 w ∷ bit 1 w ∷ bit 2 w ∷ bit 3 w ∷ bit 4 w ∷ bit 5 w ∷ bit 6 w ∷ bit 7 w ∷ bit 8 w ∷ []
+
+-- how many are set
+abbrev pub ones : List Bool → ℕ
+ones [] = 0
+ones (b ∷ bs) = cond b 1 0 + ones bs
+
+abbrev pub byKind : ℕ → ℕ → Word
+byKind k w =
+    cond (eqb k 0) null
+    (cond (eqb k 2) (frameless (16 * bits 12 12 w))
+    (cond (eqb k 3) (dwarf (specificOf w))
+    (cond (eqb k 4) (frameBased (ones (pairs w)) (pairs w))
+    (unrecognized k))))
+
+unfoldable pub parseOf : ℕ → Word
+parseOf w = byKind (kindOf w) w
+
+abbrev pub told : «OpcodeArm64» → Word
+told «OpcodeArm64».Null = null
+told («OpcodeArm64».Frameless size) = frameless size
+told («OpcodeArm64».Dwarf low24) = dwarf low24
+told («OpcodeArm64».FrameBased count x19 x21 x23 x25 x27 d8 d10 d12 d14) =
+    frameBased count (x19 ∷ x21 ∷ x23 ∷ x25 ∷ x27 ∷ d8 ∷ d10 ∷ d12 ∷ d14 ∷ [])
+told («OpcodeArm64».UnrecognizedKind kind) = unrecognized kind
