@@ -1,0 +1,191 @@
+// Stands in the module of each release, after its `macho`, `permutation`, `reader` and `NAME`:
+// the two releases' types have the same names but are not the same.
+
+use super::Release;
+use crate::ffi;
+use macho::opcodes::{OpcodeArm64, OpcodeBitfield, OpcodeX86_64, RegisterNameX86_64};
+use macho::raw::{U16, U32};
+use reader::Reader;
+
+pub const RELEASE: Release = Release {
+    name: NAME,
+    decode_permutation_6,
+    opcode_kind: |word| OpcodeBitfield::new(word).kind(),
+    opcode_specific_bits: |word| OpcodeBitfield::new(word).specific_bits(),
+    register_x86_64,
+    parse_x86_64,
+    parse_arm64,
+    read_u16: |section, offset| {
+        number(
+            section
+                .read_at(offset as u64)
+                .map(|n: &U16| u16::from(*n).into()),
+        )
+    },
+    read_u32: |section, offset| {
+        number(
+            section
+                .read_at(offset as u64)
+                .map(|n: &U32| u32::from(*n).into()),
+        )
+    },
+    read_u64: |section, offset| {
+        number(
+            section
+                .read_at(offset as u64)
+                .map(|n| u64::from_le_bytes(*n)),
+        )
+    },
+    is_granted: |section, offset, bytes| {
+        section
+            .read_slice_at::<u8>(offset as u64, bytes)
+            .is_some()
+            .into()
+    },
+};
+
+fn decode_permutation_6(count: u32, encoding: u32) -> ffi::Permutation {
+    match permutation::decode_permutation_6(count, encoding) {
+        Ok(registers) => ffi::Permutation {
+            refusal: 0,
+            registers,
+        },
+        Err(()) => ffi::Permutation {
+            refusal: ffi::PERMUTATION_REFUSED,
+            registers: [0; 6],
+        },
+    }
+}
+
+/// The number in the name: "reg3" gives 3.
+fn register_x86_64(n: u8) -> ffi::RegisterName {
+    match RegisterNameX86_64::parse(n) {
+        Some(register) => {
+            let digits = register.dwarf_name().strip_prefix("reg").unwrap();
+            ffi::RegisterName {
+                named: 1,
+                dwarf_number: digits.parse().unwrap(),
+            }
+        }
+        None => ffi::RegisterName::default(),
+    }
+}
+
+fn parse_x86_64(word: u32) -> ffi::OpcodeX86_64 {
+    let none = ffi::OpcodeX86_64::default();
+    match OpcodeX86_64::parse(word) {
+        OpcodeX86_64::Null => ffi::OpcodeX86_64 { answer: 0, ..none },
+        OpcodeX86_64::FrameBased {
+            stack_offset_in_bytes,
+            saved_regs: [r0, r1, r2, r3, r4],
+        } => ffi::OpcodeX86_64 {
+            answer: 1,
+            stack_in_bytes: stack_offset_in_bytes.into(),
+            // The Rust lists the word's highest field first.
+            saved_regs: [r4, r3, r2, r1, r0, None].map(register_number),
+            ..none
+        },
+        OpcodeX86_64::FramelessImmediate {
+            stack_size_in_bytes,
+            saved_regs,
+        } => ffi::OpcodeX86_64 {
+            answer: 2,
+            stack_in_bytes: stack_size_in_bytes.into(),
+            saved_regs: saved_regs.map(register_number),
+            ..none
+        },
+        OpcodeX86_64::FramelessIndirect {
+            immediate_offset_from_function_start,
+            stack_adjust_in_bytes,
+            saved_regs,
+        } => ffi::OpcodeX86_64 {
+            answer: 3,
+            immediate_offset_from_function_start: immediate_offset_from_function_start.into(),
+            stack_adjust_in_bytes: stack_adjust_in_bytes.into(),
+            saved_regs: saved_regs.map(register_number),
+            ..none
+        },
+        OpcodeX86_64::Dwarf { eh_frame_fde } => ffi::OpcodeX86_64 {
+            answer: 4,
+            eh_frame_fde,
+            ..none
+        },
+        OpcodeX86_64::InvalidFrameless => ffi::OpcodeX86_64 { answer: 5, ..none },
+        OpcodeX86_64::UnrecognizedKind(kind) => ffi::OpcodeX86_64 {
+            answer: 6,
+            unrecognized_kind: kind.into(),
+            ..none
+        },
+    }
+}
+
+fn register_number(register: Option<RegisterNameX86_64>) -> u8 {
+    match register {
+        None => 0,
+        Some(RegisterNameX86_64::Rbx) => 1,
+        Some(RegisterNameX86_64::R12) => 2,
+        Some(RegisterNameX86_64::R13) => 3,
+        Some(RegisterNameX86_64::R14) => 4,
+        Some(RegisterNameX86_64::R15) => 5,
+        Some(RegisterNameX86_64::Rbp) => 6,
+    }
+}
+
+fn parse_arm64(word: u32) -> ffi::OpcodeArm64 {
+    let none = ffi::OpcodeArm64::default();
+    match OpcodeArm64::parse(word) {
+        OpcodeArm64::Null => ffi::OpcodeArm64 { answer: 0, ..none },
+        OpcodeArm64::Frameless {
+            stack_size_in_bytes,
+        } => ffi::OpcodeArm64 {
+            answer: 1,
+            stack_size_in_bytes: stack_size_in_bytes.into(),
+            ..none
+        },
+        OpcodeArm64::Dwarf { eh_frame_fde } => ffi::OpcodeArm64 {
+            answer: 2,
+            eh_frame_fde,
+            ..none
+        },
+        OpcodeArm64::FrameBased {
+            saved_reg_pair_count,
+            d14_and_d15_saved,
+            d12_and_d13_saved,
+            d10_and_d11_saved,
+            d8_and_d9_saved,
+            x27_and_x28_saved,
+            x25_and_x26_saved,
+            x23_and_x24_saved,
+            x21_and_x22_saved,
+            x19_and_x20_saved,
+        } => ffi::OpcodeArm64 {
+            answer: 3,
+            saved_reg_pair_count: saved_reg_pair_count.into(),
+            pairs_saved: [
+                x19_and_x20_saved,
+                x21_and_x22_saved,
+                x23_and_x24_saved,
+                x25_and_x26_saved,
+                x27_and_x28_saved,
+                d8_and_d9_saved,
+                d10_and_d11_saved,
+                d12_and_d13_saved,
+                d14_and_d15_saved,
+            ]
+            .map(u8::from),
+            ..none
+        },
+        OpcodeArm64::UnrecognizedKind(kind) => ffi::OpcodeArm64 {
+            answer: 4,
+            unrecognized_kind: kind.into(),
+            ..none
+        },
+    }
+}
+
+fn number(read: Option<u64>) -> ffi::Number {
+    match read {
+        Some(value) => ffi::Number { granted: 1, value },
+        None => ffi::Number::default(),
+    }
+}

@@ -1,0 +1,84 @@
+//! Counting answers, and saying which differ.
+
+use std::fmt::Debug;
+use std::process::ExitCode;
+
+/// Differing inputs of a group that are printed.
+const SHOWN: usize = 5;
+
+/// One group of answers.
+pub struct Tally {
+    name: String,
+    compared: u64,
+    different: u64,
+    first: Vec<String>,
+}
+
+impl Tally {
+    pub fn new(name: impl Into<String>) -> Self {
+        let name = name.into();
+        Tally {
+            name,
+            compared: 0,
+            different: 0,
+            first: Vec::new(),
+        }
+    }
+
+    /// Counts one answer; `input` is asked for only where the two differ.
+    pub fn check<A: PartialEq + Debug>(
+        &mut self,
+        input: impl FnOnce() -> String,
+        ours: A,
+        theirs: A,
+    ) {
+        self.compared += 1;
+        if ours != theirs {
+            self.different += 1;
+            if self.first.len() < SHOWN {
+                self.first
+                    .push(format!("{}: ours {ours:?}, theirs {theirs:?}", input()));
+            }
+        }
+    }
+
+    fn print(&self, word: &str) {
+        println!(
+            "{:<44} {:>10} compared {:>9} {word}",
+            self.name, self.compared, self.different
+        );
+        for line in &self.first {
+            println!("    {line}");
+        }
+    }
+}
+
+/// All groups of a run.
+#[derive(Default)]
+pub struct Report {
+    compared: u64,
+    different: u64,
+}
+
+impl Report {
+    pub fn add(&mut self, group: Tally) {
+        group.print("different");
+        self.compared += group.compared;
+        self.different += group.different;
+    }
+
+    /// A difference that docs/DIFFERENCES.md lists: shown by its first input, and not counted.
+    pub fn add_listed(&mut self, mut group: Tally) {
+        group.first.truncate(1);
+        group.print("differ as listed");
+    }
+
+    pub fn end(self) -> ExitCode {
+        println!("{} compared, {} different", self.compared, self.different);
+        if self.different > 0 {
+            ExitCode::FAILURE
+        } else {
+            ExitCode::SUCCESS
+        }
+    }
+}
