@@ -29,30 +29,27 @@ pub struct RegisterName {
 }
 
 /// `answer`: 0 null, 1 frame-based, 2 frameless immediate, 3 frameless indirect, 4 DWARF,
-/// 5 invalid frameless, 6 unrecognised kind. Values of other cases are 0.
+/// 5 invalid frameless, 6 unrecognised kind. `value`: the offset, the size, the immediate's
+/// place, the 24 bits or the kind; 0 where the case has none.
 #[repr(C)]
 #[derive(Clone, Copy, Debug, Default, PartialEq, Eq)]
 pub struct OpcodeX86_64 {
-    pub answer: u32,
-    pub stack_in_bytes: u32,
-    pub immediate_offset_from_function_start: u32,
-    pub stack_adjust_in_bytes: u32,
-    pub eh_frame_fde: u32,
-    pub unrecognized_kind: u32,
+    pub value: u32,
+    pub answer: u8,
+    pub stack_adjust_in_bytes: u8,
     pub saved_regs: [u8; 6],
 }
 
-/// `answer`: 0 null, 1 frameless, 2 DWARF, 3 frame-based, 4 unrecognised kind. Values of other
-/// cases are 0. The nine pairs are x19/x20 to x27/x28, then d8/d9 to d14/d15.
+/// `answer`: 0 null, 1 frameless, 2 DWARF, 3 frame-based, 4 unrecognised kind. `value`: the size,
+/// the 24 bits or the kind; 0 where the case has none. Nine pairs, x19/x20 lowest, x27/x28, then
+/// d8/d9 to d14/d15.
 #[repr(C)]
 #[derive(Clone, Copy, Debug, Default, PartialEq, Eq)]
 pub struct OpcodeArm64 {
-    pub answer: u32,
-    pub stack_size_in_bytes: u32,
-    pub eh_frame_fde: u32,
-    pub unrecognized_kind: u32,
-    pub saved_reg_pair_count: u32,
-    pub pairs_saved: [u8; 9],
+    pub value: u32,
+    pub answer: u8,
+    pub saved_reg_pair_count: u8,
+    pub saved_pairs: u16,
 }
 
 #[repr(C)]

@@ -14,7 +14,7 @@ use constants::Constants;
 const WORDS: u32 = 200_000;
 
 /// A mode's constant, and our cases of a word in that mode.
-type Mode = (&'static str, &'static [u32]);
+type Mode = (&'static str, &'static [u8]);
 
 /// A field's constant, the mode in which it stands, the unit in which it counts, and ours.
 type Field<Opcode> = (&'static str, &'static str, u32, fn(&Opcode) -> u32);
@@ -88,8 +88,8 @@ fn modes(
     constants: &Constants,
     mask: &str,
     modes: &[Mode],
-    unrecognized: u32,
-    case: impl Fn(u32) -> u32,
+    unrecognized: u8,
+    case: impl Fn(u32) -> u8,
 ) -> Tally {
     let mut tally = Tally::new(name);
     let mask = constants.get(mask);

@@ -5,7 +5,7 @@
 
 mod inputs;
 
-use crate::ffi::{OpcodeArm64, OpcodeX86_64, Permutation};
+use crate::ffi::Permutation;
 use crate::oracle::{NEWEST, RELEASES};
 use std::fmt::Debug;
 
@@ -52,22 +52,14 @@ fn x86_64_words() -> Vec<Record> {
             X86_64,
             word,
             0,
-            opcode.answer,
-            x86_64_value(&opcode),
-            opcode.stack_adjust_in_bytes,
+            opcode.answer.into(),
+            opcode.value,
+            opcode.stack_adjust_in_bytes.into(),
             low,
             high,
         ]
     };
     inputs::x86_64_words().into_iter().map(record).collect()
-}
-
-/// Of these at most one isn't 0, since each belongs to cases of its own.
-fn x86_64_value(opcode: &OpcodeX86_64) -> u32 {
-    opcode.stack_in_bytes
-        | opcode.immediate_offset_from_function_start
-        | opcode.eh_frame_fde
-        | opcode.unrecognized_kind
 }
 
 fn arm64_words() -> Vec<Record> {
@@ -77,31 +69,15 @@ fn arm64_words() -> Vec<Record> {
             ARM64,
             word,
             0,
-            opcode.answer,
-            arm64_value(&opcode),
-            pair_bits(&opcode),
+            opcode.answer.into(),
+            // One of these is 0, since they belong to different cases.
+            opcode.value | u32::from(opcode.saved_reg_pair_count),
+            opcode.saved_pairs.into(),
             0,
             0,
         ]
     };
     inputs::arm64_words().into_iter().map(record).collect()
-}
-
-/// Of these at most one isn't 0, since each belongs to a case of its own.
-fn arm64_value(opcode: &OpcodeArm64) -> u32 {
-    opcode.stack_size_in_bytes
-        | opcode.eh_frame_fde
-        | opcode.unrecognized_kind
-        | opcode.saved_reg_pair_count
-}
-
-/// x19/x20 lowest, d14/d15 highest.
-fn pair_bits(opcode: &OpcodeArm64) -> u32 {
-    opcode
-        .pairs_saved
-        .iter()
-        .rev()
-        .fold(0, |bits, &saved| bits << 1 | u32::from(saved))
 }
 
 /// The first four registers, then the last two, lowest byte first.

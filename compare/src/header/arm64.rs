@@ -11,36 +11,36 @@ const DWARF: &str = "UNWIND_ARM64_MODE_DWARF";
 const FRAME: &str = "UNWIND_ARM64_MODE_FRAME";
 
 const MODES: [Mode; 3] = [(FRAMELESS, &[1]), (DWARF, &[2]), (FRAME, &[3])];
-const UNRECOGNIZED: u32 = 4;
+const UNRECOGNIZED: u8 = 4;
 
 const FIELDS: [Field<OpcodeArm64>; 7] = [
     (
         "UNWIND_ARM64_FRAMELESS_STACK_SIZE_MASK",
         FRAMELESS,
         16,
-        |opcode| opcode.stack_size_in_bytes,
+        |opcode| opcode.value,
     ),
     ("UNWIND_ARM64_DWARF_SECTION_OFFSET", DWARF, 1, |opcode| {
-        opcode.eh_frame_fde
+        opcode.value
     }),
     ("UNWIND_ARM64_FRAME_X19_X20_PAIR", FRAME, 1, |opcode| {
-        opcode.pairs_saved[0].into()
+        pair(opcode, 0)
     }),
     ("UNWIND_ARM64_FRAME_X21_X22_PAIR", FRAME, 1, |opcode| {
-        opcode.pairs_saved[1].into()
+        pair(opcode, 1)
     }),
     ("UNWIND_ARM64_FRAME_X23_X24_PAIR", FRAME, 1, |opcode| {
-        opcode.pairs_saved[2].into()
+        pair(opcode, 2)
     }),
     ("UNWIND_ARM64_FRAME_X25_X26_PAIR", FRAME, 1, |opcode| {
-        opcode.pairs_saved[3].into()
+        pair(opcode, 3)
     }),
     ("UNWIND_ARM64_FRAME_X27_X28_PAIR", FRAME, 1, |opcode| {
-        opcode.pairs_saved[4].into()
+        pair(opcode, 4)
     }),
 ];
 
-/// The d pairs, which stand at `pairs_saved[5..]`.
+/// The d pairs, which stand at bits 5 to 8 of `saved_pairs`.
 const D_PAIRS: [&str; 4] = [
     "UNWIND_ARM64_FRAME_D8_D9_PAIR",
     "UNWIND_ARM64_FRAME_D10_D11_PAIR",
@@ -85,13 +85,17 @@ fn d_pairs(constants: &Constants) -> Tally {
     let masks = D_PAIRS.map(|name| constants.get(name));
     for low in 0..1 << 12 {
         let word = constants.get(FRAME) | low;
-        let pairs = ffi::parse_arm64(word).pairs_saved;
-        let ours = [pairs[5], pairs[6], pairs[7], pairs[8]];
+        let opcode = ffi::parse_arm64(word);
+        let ours = [5, 6, 7, 8].map(|k| pair(&opcode, k));
         tally.check(
             || input("d8/d9 to d14/d15", word),
             ours,
-            masks.map(|mask| field(word, mask) as u8),
+            masks.map(|mask| field(word, mask)),
         );
     }
     tally
+}
+
+fn pair(opcode: &OpcodeArm64, k: u16) -> u32 {
+    u32::from(opcode.saved_pairs >> k & 1)
 }

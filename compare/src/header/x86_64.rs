@@ -18,8 +18,8 @@ const MODES: [Mode; 4] = [
     (STACK_IND, &[3, 5]),
     (DWARF, &[4]),
 ];
-const REFUSED: u32 = 5;
-const UNRECOGNIZED: u32 = 6;
+const REFUSED: u8 = 5;
+const UNRECOGNIZED: u8 = 6;
 
 const FIELDS: [Field<OpcodeX86_64>; 6] = [
     (
@@ -29,28 +29,28 @@ const FIELDS: [Field<OpcodeX86_64>; 6] = [
         five_fields,
     ),
     ("UNWIND_X86_64_RBP_FRAME_OFFSET", RBP_FRAME, 8, |opcode| {
-        opcode.stack_in_bytes
+        opcode.value
     }),
     (
         "UNWIND_X86_64_FRAMELESS_STACK_SIZE",
         STACK_IMMD,
         8,
-        |opcode| opcode.stack_in_bytes,
+        |opcode| opcode.value,
     ),
     (
         "UNWIND_X86_64_FRAMELESS_STACK_SIZE",
         STACK_IND,
         1,
-        |opcode| opcode.immediate_offset_from_function_start,
+        |opcode| opcode.value,
     ),
     (
         "UNWIND_X86_64_FRAMELESS_STACK_ADJUST",
         STACK_IND,
         8,
-        |opcode| opcode.stack_adjust_in_bytes,
+        |opcode| opcode.stack_adjust_in_bytes.into(),
     ),
     ("UNWIND_X86_64_DWARF_SECTION_OFFSET", DWARF, 1, |opcode| {
-        opcode.eh_frame_fde
+        opcode.value
     }),
 ];
 

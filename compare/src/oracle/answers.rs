@@ -80,7 +80,7 @@ fn parse_x86_64(word: u32) -> ffi::OpcodeX86_64 {
             saved_regs: [r0, r1, r2, r3, r4],
         } => ffi::OpcodeX86_64 {
             answer: 1,
-            stack_in_bytes: stack_offset_in_bytes.into(),
+            value: stack_offset_in_bytes.into(),
             // The Rust lists the word's highest field first.
             saved_regs: [r4, r3, r2, r1, r0, None].map(register_number),
             ..none
@@ -90,7 +90,7 @@ fn parse_x86_64(word: u32) -> ffi::OpcodeX86_64 {
             saved_regs,
         } => ffi::OpcodeX86_64 {
             answer: 2,
-            stack_in_bytes: stack_size_in_bytes.into(),
+            value: stack_size_in_bytes.into(),
             saved_regs: saved_regs.map(register_number),
             ..none
         },
@@ -100,20 +100,20 @@ fn parse_x86_64(word: u32) -> ffi::OpcodeX86_64 {
             saved_regs,
         } => ffi::OpcodeX86_64 {
             answer: 3,
-            immediate_offset_from_function_start: immediate_offset_from_function_start.into(),
-            stack_adjust_in_bytes: stack_adjust_in_bytes.into(),
+            value: immediate_offset_from_function_start.into(),
+            stack_adjust_in_bytes,
             saved_regs: saved_regs.map(register_number),
             ..none
         },
         OpcodeX86_64::Dwarf { eh_frame_fde } => ffi::OpcodeX86_64 {
             answer: 4,
-            eh_frame_fde,
+            value: eh_frame_fde,
             ..none
         },
         OpcodeX86_64::InvalidFrameless => ffi::OpcodeX86_64 { answer: 5, ..none },
         OpcodeX86_64::UnrecognizedKind(kind) => ffi::OpcodeX86_64 {
             answer: 6,
-            unrecognized_kind: kind.into(),
+            value: kind.into(),
             ..none
         },
     }
@@ -139,12 +139,12 @@ fn parse_arm64(word: u32) -> ffi::OpcodeArm64 {
             stack_size_in_bytes,
         } => ffi::OpcodeArm64 {
             answer: 1,
-            stack_size_in_bytes: stack_size_in_bytes.into(),
+            value: stack_size_in_bytes.into(),
             ..none
         },
         OpcodeArm64::Dwarf { eh_frame_fde } => ffi::OpcodeArm64 {
             answer: 2,
-            eh_frame_fde,
+            value: eh_frame_fde,
             ..none
         },
         OpcodeArm64::FrameBased {
@@ -160,8 +160,8 @@ fn parse_arm64(word: u32) -> ffi::OpcodeArm64 {
             x19_and_x20_saved,
         } => ffi::OpcodeArm64 {
             answer: 3,
-            saved_reg_pair_count: saved_reg_pair_count.into(),
-            pairs_saved: [
+            saved_reg_pair_count,
+            saved_pairs: [
                 x19_and_x20_saved,
                 x21_and_x22_saved,
                 x23_and_x24_saved,
@@ -172,12 +172,14 @@ fn parse_arm64(word: u32) -> ffi::OpcodeArm64 {
                 d12_and_d13_saved,
                 d14_and_d15_saved,
             ]
-            .map(u8::from),
+            .iter()
+            .rev()
+            .fold(0, |pairs, &saved| pairs << 1 | u16::from(saved)),
             ..none
         },
         OpcodeArm64::UnrecognizedKind(kind) => ffi::OpcodeArm64 {
             answer: 4,
-            unrecognized_kind: kind.into(),
+            value: kind.into(),
             ..none
         },
     }

@@ -1,8 +1,9 @@
 -- What was told of an answer, once its case is known, flat.
 -- Assumes nothing.
-use Prim.Native.Nat.{ℕ, pred}
+use Prim.Native.Nat.{ℕ, pred, _+_, _*_}
 use mathlib.Core.Path.{_≡_, refl, ap, sym, _∙_}
-use mathlib.Core.List.{List}
+use mathlib.Core.Bool.{Bool, cond}
+use mathlib.Core.List.{List, _∷_}
 use lib.ListN.{getD}
 use Rattle.reader.specs.Reader as reader
 use Rattle.permutation.specs.Permutation as permutation
@@ -19,7 +20,7 @@ use Rattle.opcodes.specs.declared.«x86_64».«OpcodeX86_64».{«OpcodeX86_64»
 use Rattle.opcodes.specs.declared.arm64.«OpcodeArm64».{«OpcodeArm64»}
 use Rattle.exports.specs.declared.permutations.PermutationAnswer.{PermutationAnswer}
 use Rattle.exports.specs.declared.permutations.EncodingAnswer.{EncodingAnswer}
-use Rattle.exports.specs.Flat.{permutationAnswer, encodingAnswer, dwarfs, registerAnswer, x86Word, x86Answer, arm64Answer}
+use Rattle.exports.specs.Flat.{permutationAnswer, encodingAnswer, dwarfs, registerAnswer, x86Word, x86Answer, number, arm64Answer}
 
 -- a value that is known, through a definition: one step for every answer below
 pub known : {A B C : Type 0} (flat : B → C) (told : A → B) {x y : A} {t : B} → told x ≡ t → x ≡ y → flat (told y) ≡ flat t
@@ -62,3 +63,7 @@ dwarf-listed Rbp = refl
 pub x86-flat : (saved : List ℕ) (o k : «OpcodeX86_64») (t : x86.Told) → _≡_ {A = x86.Told} (record { word = x86.wordOf o; saved = saved }) t → o ≡ k
     → x86Word (x86.wordOf k) saved ≡ x86Answer t
 x86-flat saved o k t e p = ap (λ (j : «OpcodeX86_64»). x86Word (x86.wordOf j) saved) (sym p) ∙ ap x86Answer e
+
+-- one bit more below a number's bits
+pub pushed : (b : Bool) (bs : List Bool) (n r : ℕ) → r ≡ cond b 1 0 + 2 * n → n ≡ number bs → r ≡ number (b ∷ bs)
+pushed b bs n r e q = e ∙ ap (λ (m : ℕ). cond b 1 0 + 2 * m) q

@@ -1,7 +1,7 @@
 -- What the definitions tell, as the flat structs of the C interface: the case as a number, then the case's values, 0 where it has none.
 -- Assumes nothing.
-use Prim.Native.Nat.{ℕ, pred}
-use mathlib.Core.Bool.{Bool, false}
+use Prim.Native.Nat.{ℕ, pred, _+_, _*_}
+use mathlib.Core.Bool.{Bool, cond}
 use mathlib.Core.List.{List, [], _∷_}
 use lib.ListN.{getD}
 use Rattle.reader.specs.Reader as reader
@@ -36,53 +36,34 @@ unfoldable pub registerAnswer : registers.Told → RegisterAnswer
 registerAnswer (registers.register n) = record { named = 1; «dwarf_number» = getD dwarfs (pred n) 0 }
 registerAnswer registers.none = record { named = 0; «dwarf_number» = 0 }
 
--- the numbers in the order of the struct
-abbrev pub x86Case : ℕ → ℕ → ℕ → ℕ → ℕ → ℕ → List ℕ → «OpcodeX86_64Answer»
-x86Case answer stack place adjust fde kind saved =
-    record {
-      answer = answer;
-      «stack_in_bytes» = stack;
-      «immediate_offset_from_function_start» = place;
-      «stack_adjust_in_bytes» = adjust;
-      «eh_frame_fde» = fde;
-      «unrecognized_kind» = kind;
-      «saved_regs» = saved;
-    }
+abbrev pub x86Case : ℕ → ℕ → ℕ → List ℕ → «OpcodeX86_64Answer»
+x86Case answer value adjust saved =
+    record { value = value; answer = answer; «stack_adjust_in_bytes» = adjust; «saved_regs» = saved }
 
 abbrev pub x86Word : x86.Word → List ℕ → «OpcodeX86_64Answer»
-x86Word x86.null saved = x86Case 0 0 0 0 0 0 saved
-x86Word (x86.frameBased offset) saved = x86Case 1 offset 0 0 0 0 saved
-x86Word (x86.framelessImmediate size) saved = x86Case 2 size 0 0 0 0 saved
-x86Word (x86.framelessIndirect place adjust) saved = x86Case 3 0 place adjust 0 0 saved
-x86Word (x86.dwarf low24) saved = x86Case 4 0 0 0 low24 0 saved
-x86Word x86.invalidFrameless saved = x86Case 5 0 0 0 0 0 saved
-x86Word (x86.unrecognized kind) saved = x86Case 6 0 0 0 0 kind saved
+x86Word x86.null saved = x86Case 0 0 0 saved
+x86Word (x86.frameBased offset) saved = x86Case 1 offset 0 saved
+x86Word (x86.framelessImmediate size) saved = x86Case 2 size 0 saved
+x86Word (x86.framelessIndirect place adjust) saved = x86Case 3 place adjust saved
+x86Word (x86.dwarf low24) saved = x86Case 4 low24 0 saved
+x86Word x86.invalidFrameless saved = x86Case 5 0 0 saved
+x86Word (x86.unrecognized kind) saved = x86Case 6 kind 0 saved
 
 abbrev pub x86Answer : x86.Told → «OpcodeX86_64Answer»
 x86Answer t = x86Word (t .word) (t .saved)
 
-abbrev pub arm64Case : ℕ → ℕ → ℕ → ℕ → ℕ → List Bool → «OpcodeArm64Answer»
-arm64Case answer size fde kind count pairs =
-    record {
-      answer = answer;
-      «stack_size_in_bytes» = size;
-      «eh_frame_fde» = fde;
-      «unrecognized_kind» = kind;
-      «saved_reg_pair_count» = count;
-      «x19_and_x20_saved» = getD pairs 0 false;
-      «x21_and_x22_saved» = getD pairs 1 false;
-      «x23_and_x24_saved» = getD pairs 2 false;
-      «x25_and_x26_saved» = getD pairs 3 false;
-      «x27_and_x28_saved» = getD pairs 4 false;
-      «d8_and_d9_saved» = getD pairs 5 false;
-      «d10_and_d11_saved» = getD pairs 6 false;
-      «d12_and_d13_saved» = getD pairs 7 false;
-      «d14_and_d15_saved» = getD pairs 8 false;
-    }
+-- a list of bits as a number, the first lowest
+abbrev pub number : List Bool → ℕ
+number [] = 0
+number (b ∷ bs) = cond b 1 0 + 2 * number bs
+
+abbrev pub arm64Case : ℕ → ℕ → ℕ → List Bool → «OpcodeArm64Answer»
+arm64Case answer value count pairs =
+    record { value = value; answer = answer; «saved_reg_pair_count» = count; «saved_pairs» = number pairs }
 
 abbrev pub arm64Answer : arm.Word → «OpcodeArm64Answer»
-arm64Answer arm.null = arm64Case 0 0 0 0 0 []
-arm64Answer (arm.frameless size) = arm64Case 1 size 0 0 0 []
-arm64Answer (arm.dwarf low24) = arm64Case 2 0 low24 0 0 []
-arm64Answer (arm.frameBased count pairs) = arm64Case 3 0 0 0 count pairs
-arm64Answer (arm.unrecognized kind) = arm64Case 4 0 0 kind 0 []
+arm64Answer arm.null = arm64Case 0 0 0 []
+arm64Answer (arm.frameless size) = arm64Case 1 size 0 []
+arm64Answer (arm.dwarf low24) = arm64Case 2 low24 0 []
+arm64Answer (arm.frameBased count pairs) = arm64Case 3 0 count pairs
+arm64Answer (arm.unrecognized kind) = arm64Case 4 kind 0 []

@@ -1,11 +1,13 @@
 // Opcode words.
 ghost use mathlib.Core.Path.{_≡_};
-ghost use mathlib.Core.List.{[]};
+ghost use mathlib.Core.Bool.{cond};
+ghost use mathlib.Core.List.{[], _∷_};
+ghost use Prim.Native.Nat.{_+_, _*_, _<_, _≤_};
 ghost use Rattle.opcodes.specs.Bits.{kindOf, specificOf};
 ghost use Rattle.opcodes.specs.Registers.{namedOf};
 ghost use Rattle.opcodes.specs.WordsX86 as x86;
 ghost use Rattle.opcodes.specs.WordsArm64 as arm;
-ghost use Rattle.exports.specs.Flat.{registerAnswer, x86Case, x86Answer, arm64Case, arm64Answer};
+ghost use Rattle.exports.specs.Flat.{registerAnswer, x86Case, x86Answer, number, arm64Case, arm64Answer};
 use opcodes::arm64::OpcodeArm64;
 use opcodes::bitfield::OpcodeBitfield;
 use opcodes::x86_64::Named;
@@ -20,36 +22,24 @@ pub struct RegisterAnswer {
 }
 
 // answer is 0 null, 1 frame-based, 2 frameless immediate, 3 frameless indirect, 4 DWARF, 5 invalid frameless, 6 unrecognised kind.
-// What the case does not have is 0. Frame-based: stack_in_bytes is the offset, and place k of saved_regs has field k. Frameless
-// immediate: stack_in_bytes is the size.
+// value is 1: the offset in bytes; 2: the size in bytes; 3: the immediate's place; 4: the 24 bits; 6: the kind; else 0. Place k of
+// saved_regs has field k of a frame-based word, or the k-th register of a frameless one. Small enough for two registers.
 #[repr(C)]
 pub struct OpcodeX86_64Answer {
-    pub answer: u32,
-    pub stack_in_bytes: u32,
-    pub immediate_offset_from_function_start: u32,
-    pub stack_adjust_in_bytes: u32,
-    pub eh_frame_fde: u32,
-    pub unrecognized_kind: u32,
+    pub value: u32,
+    pub answer: u8,
+    pub stack_adjust_in_bytes: u8,
     pub saved_regs: [u8; 6],
 }
 
-// answer is 0 null, 1 frameless, 2 DWARF, 3 frame-based, 4 unrecognised kind. What the case does not have is 0.
+// answer is 0 null, 1 frameless, 2 DWARF, 3 frame-based, 4 unrecognised kind. value is 1: the size in bytes; 2: the 24 bits; 4: the
+// kind; else 0. saved_pairs has a bit for each pair of a frame-based word: x19/x20 lowest, .. x27/x28, then d8/d9, .. d14/d15.
 #[repr(C)]
 pub struct OpcodeArm64Answer {
-    pub answer: u32,
-    pub stack_size_in_bytes: u32,
-    pub eh_frame_fde: u32,
-    pub unrecognized_kind: u32,
-    pub saved_reg_pair_count: u32,
-    pub x19_and_x20_saved: bool,
-    pub x21_and_x22_saved: bool,
-    pub x23_and_x24_saved: bool,
-    pub x25_and_x26_saved: bool,
-    pub x27_and_x28_saved: bool,
-    pub d8_and_d9_saved: bool,
-    pub d10_and_d11_saved: bool,
-    pub d12_and_d13_saved: bool,
-    pub d14_and_d15_saved: bool,
+    pub value: u32,
+    pub answer: u8,
+    pub saved_reg_pair_count: u8,
+    pub saved_pairs: u16,
 }
 
 #[no_mangle]
@@ -90,42 +80,35 @@ pub extern "C" fn brasspurse_parse_x86_64(word: u32) -> OpcodeX86_64Answer
     let opcode = parsed.opcode;
     let regs = parsed.saved_regs;
     match opcode {
-        OpcodeX86_64::Null => x86_case(0, 0, 0, 0, 0, 0, regs),
+        OpcodeX86_64::Null => x86_case(0, 0, 0, regs),
         OpcodeX86_64::FrameBased {
             stack_offset_in_bytes,
-        } => x86_case(1, stack_offset_in_bytes as u32, 0, 0, 0, 0, regs),
+        } => x86_case(1, stack_offset_in_bytes as u32, 0, regs),
         OpcodeX86_64::FramelessImmediate {
             stack_size_in_bytes,
-        } => x86_case(2, stack_size_in_bytes as u32, 0, 0, 0, 0, regs),
+        } => x86_case(2, stack_size_in_bytes as u32, 0, regs),
         OpcodeX86_64::FramelessIndirect {
-            immediate_offset_from_function_start: at,
-            stack_adjust_in_bytes: adjust,
-        } => x86_case(3, 0, at as u32, adjust as u32, 0, 0, regs),
-        OpcodeX86_64::Dwarf { eh_frame_fde } => x86_case(4, 0, 0, 0, eh_frame_fde, 0, regs),
-        OpcodeX86_64::InvalidFrameless => x86_case(5, 0, 0, 0, 0, 0, regs),
-        OpcodeX86_64::UnrecognizedKind(kind) => x86_case(6, 0, 0, 0, 0, kind as u32, regs),
+            immediate_offset_from_function_start,
+            stack_adjust_in_bytes,
+        } => x86_case(
+            3,
+            immediate_offset_from_function_start as u32,
+            stack_adjust_in_bytes,
+            regs,
+        ),
+        OpcodeX86_64::Dwarf { eh_frame_fde } => x86_case(4, eh_frame_fde, 0, regs),
+        OpcodeX86_64::InvalidFrameless => x86_case(5, 0, 0, regs),
+        OpcodeX86_64::UnrecognizedKind(kind) => x86_case(6, kind as u32, 0, regs),
     }
 }
 
-// The answer, with its numbers in the order of the struct.
-fn x86_case(
-    answer: u32,
-    stack: u32,
-    at: u32,
-    adjust: u32,
-    fde: u32,
-    kind: u32,
-    saved_regs: [u8; 6],
-) -> OpcodeX86_64Answer
-    ensures { λ r. ⌜ r ≡ x86Case answer stack «at» adjust fde kind «saved_regs» ⌝ }
+fn x86_case(answer: u8, value: u32, adjust: u8, saved_regs: [u8; 6]) -> OpcodeX86_64Answer
+    ensures { λ r. ⌜ r ≡ x86Case answer value adjust «saved_regs» ⌝ }
 {
     OpcodeX86_64Answer {
+        value,
         answer,
-        stack_in_bytes: stack,
-        immediate_offset_from_function_start: at,
         stack_adjust_in_bytes: adjust,
-        eh_frame_fde: fde,
-        unrecognized_kind: kind,
         saved_regs,
     }
 }
@@ -136,12 +119,12 @@ pub extern "C" fn brasspurse_parse_arm64(word: u32) -> OpcodeArm64Answer
 {
     let opcode = OpcodeArm64::parse(word);
     match opcode {
-        OpcodeArm64::Null => arm64_case(0, 0, 0, 0),
+        OpcodeArm64::Null => arm64_case(0, 0),
         OpcodeArm64::Frameless {
             stack_size_in_bytes,
-        } => arm64_case(1, stack_size_in_bytes as u32, 0, 0),
-        OpcodeArm64::Dwarf { eh_frame_fde } => arm64_case(2, 0, eh_frame_fde, 0),
-        OpcodeArm64::UnrecognizedKind(kind) => arm64_case(4, 0, 0, kind as u32),
+        } => arm64_case(1, stack_size_in_bytes as u32),
+        OpcodeArm64::Dwarf { eh_frame_fde } => arm64_case(2, eh_frame_fde),
+        OpcodeArm64::UnrecognizedKind(kind) => arm64_case(4, kind as u32),
         OpcodeArm64::FrameBased {
             saved_reg_pair_count,
             x19_and_x20_saved,
@@ -154,42 +137,57 @@ pub extern "C" fn brasspurse_parse_arm64(word: u32) -> OpcodeArm64Answer
             d12_and_d13_saved,
             d14_and_d15_saved,
         } => OpcodeArm64Answer {
+            value: 0,
             answer: 3,
-            stack_size_in_bytes: 0,
-            eh_frame_fde: 0,
-            unrecognized_kind: 0,
-            saved_reg_pair_count: saved_reg_pair_count as u32,
-            x19_and_x20_saved,
-            x21_and_x22_saved,
-            x23_and_x24_saved,
-            x25_and_x26_saved,
-            x27_and_x28_saved,
-            d8_and_d9_saved,
-            d10_and_d11_saved,
-            d12_and_d13_saved,
-            d14_and_d15_saved,
+            saved_reg_pair_count,
+            saved_pairs: pair_bits(
+                x19_and_x20_saved,
+                x21_and_x22_saved,
+                x23_and_x24_saved,
+                x25_and_x26_saved,
+                x27_and_x28_saved,
+                d8_and_d9_saved,
+                d10_and_d11_saved,
+                d12_and_d13_saved,
+                d14_and_d15_saved,
+            ),
         },
     }
 }
 
+fn pair_bits(
+    x19: bool,
+    x21: bool,
+    x23: bool,
+    x25: bool,
+    x27: bool,
+    d8: bool,
+    d10: bool,
+    d12: bool,
+    d14: bool,
+) -> u16
+    ensures { λ r. ⌜ r ≡ number (x19 ∷ x21 ∷ x23 ∷ x25 ∷ x27 ∷ d8 ∷ d10 ∷ d12 ∷ d14 ∷ []) ⌝ }
+{
+    let d = bit(d8, bit(d10, bit(d12, bit(d14, 0))));
+    bit(x19, bit(x21, bit(x23, bit(x25, bit(x27, d)))))
+}
+
 // A case that lists no pairs.
-fn arm64_case(answer: u32, size: u32, fde: u32, kind: u32) -> OpcodeArm64Answer
-    ensures { λ r. ⌜ r ≡ arm64Case answer size fde kind 0 [] ⌝ }
+fn arm64_case(answer: u8, value: u32) -> OpcodeArm64Answer
+    ensures { λ r. ⌜ r ≡ arm64Case answer value 0 [] ⌝ }
 {
     OpcodeArm64Answer {
+        value,
         answer,
-        stack_size_in_bytes: size,
-        eh_frame_fde: fde,
-        unrecognized_kind: kind,
         saved_reg_pair_count: 0,
-        x19_and_x20_saved: false,
-        x21_and_x22_saved: false,
-        x23_and_x24_saved: false,
-        x25_and_x26_saved: false,
-        x27_and_x28_saved: false,
-        d8_and_d9_saved: false,
-        d10_and_d11_saved: false,
-        d12_and_d13_saved: false,
-        d14_and_d15_saved: false,
+        saved_pairs: 0,
     }
+}
+
+// A number's bits with one more below them.
+fn bit(set: bool, above: u16) -> u16
+    requires { ⌜ above < 256 ⌝ }
+    ensures { λ r. ⌜ (r ≡ cond set 1 0 + 2 * above) × (r ≤ 1 + 2 * above) ⌝ }
+{
+    if set { 1 + 2 * above } else { 2 * above }
 }

@@ -106,17 +106,6 @@ unfolding good rows bounds
 row-radix zero p h = absurd (omega arith)
 row-radix (suc n) p h = below-at good 6 refl n h
 
--- a bound is six first weights, and at most 720
-bounded : ℕ → Bool
-bounded n = eqb (6 * getD (getD rows (suc n) []) 0 0) (getD bounds (suc n) 0) && leb (getD bounds (suc n) 0) 720
-
-pub row-bound : (n : ℕ) → 0 < n → n ≤ 6 → (6 * getD (getD rows n []) 0 0 ≡ getD bounds n 0) × (getD bounds n 0 ≤ 720)
-unfolding bounded rows bounds
-row-bound zero p h = absurd (omega arith)
-row-bound (suc n) p h =
-    let r = both-eq (6 * getD (getD rows (suc n) []) 0 0) (getD bounds (suc n) 0) (leb (getD bounds (suc n) 0) 720) (below-at bounded 6 refl n h) in
-    (r .0, leb-true (getD bounds (suc n) 0) 720 (r .1))
-
 long : ℕ → Bool
 long n = eqb (length (getD rows n [])) 6
 

@@ -19,16 +19,13 @@ pub record Below (n e : ℕ) : Type 0 where
   pub count : n ≤ 6
   pub small : 0 < n → e < getD bounds n 0
 
-pub accepts-below : (n e : ℕ) → Below n e → accepts n e ≡ true
+accepts-below : (n e : ℕ) → Below n e → accepts n e ≡ true
 accepts-below zero e b = refl
 accepts-below (suc n) e b =
     simp (le-leb (suc n) 6 (b .count), ne-eqb (suc n) 0 (omega arith), lt-ltb e (getD bounds (suc n) 0) (b .small (omega arith)))
 
 pub accepts-no-count : (n e : ℕ) → 6 < n → accepts n e ≡ false
 accepts-no-count n e h = simp (lt-leb n 6 h)
-
-pub accepts-no-encoding : (n e : ℕ) → n ≤ 6 → 0 < n → getD bounds n 0 ≤ e → accepts n e ≡ false
-accepts-no-encoding n e l p h = simp (le-leb n 6 l, ne-eqb n 0 (omega arith), le-ltb e (getD bounds n 0) h)
 
 pub below-accepted : (n e : ℕ) → accepts n e ≡ true → Below n e
 below-accepted n e t =

@@ -1,4 +1,4 @@
--- The unused registers as the code keeps them: a flag for each register from 1 on, 0 where it is unused. For the contracts of helpers.
+-- What the code keeps, for the contracts of helpers: a flag for each register from 1 on, 0 where it is unused, and the steps of a scan.
 -- Assumes nothing.
 use Prim.Native.Nat.{ℕ, zero, suc}
 use mathlib.Core.List.{List, [], _∷_}

@@ -6,8 +6,8 @@ ghost use lib.Dec.{eqb};
 ghost use Rattle.permutation.specs.Permutation.{accepts, decodeOf, encodeOf, told, toldEncoded, decodedNumber, encodedNumber, member, every};
 ghost use Rattle.permutation.specs.Flags.{unused, zeros, stepOf};
 
-// The weights of the digits, by the count of registers.
-pub const WEIGHTS: [[u32; 6]; 7] = [
+// The weights of the digits, by the count of registers. Bytes, since a constant array is laid out anew where it is used.
+pub const WEIGHTS: [[u8; 6]; 7] = [
     [0, 0, 0, 0, 0, 0],
     [1, 0, 0, 0, 0, 0],
     [5, 1, 0, 0, 0, 0],
@@ -93,24 +93,26 @@ pub fn decode_permutation_6(count: u32, encoding: u32) -> Permutation
     }
 }
 
-// The first refused encoding is six times the first weight.
 fn is_accepted(count: u32, encoding: u32) -> bool
     ensures { λ r. ⌜ r ≡ accepts count encoding ⌝ }
 {
-    if 6 < count {
-        return false;
+    match count {
+        0 => true,
+        1 => encoding < 6,
+        2 => encoding < 30,
+        3 => encoding < 120,
+        4 => encoding < 360,
+        5 => encoding < 720,
+        6 => encoding < 720,
+        _ => false,
     }
-    if count == 0 {
-        return true;
-    }
-    let row = WEIGHTS[count as usize];
-    if encoding < 6 * row[0] { true } else { false }
 }
 
-fn step_of(weight: u32) -> u32
+// What is taken off for each unused register passed.
+fn step_of(weight: u8) -> u32
     ensures { λ r. ⌜ r ≡ stepOf weight ⌝ }
 {
-    if weight == 0 { 1 } else { weight }
+    if weight == 0 { 1 } else { weight as u32 }
 }
 
 pub fn encode_permutation_6(count: u32, registers: [u8; 6]) -> Encoded
@@ -130,7 +132,7 @@ pub fn encode_permutation_6(count: u32, registers: [u8; 6]) -> Encoded
             return Encoded::Refused;
         }
         let at = place(x);
-        sum += row[i] * rank(used, at);
+        sum += wide(row[i]) * rank(used, at);
         used[at] = 1;
         i += 1;
     }
@@ -139,6 +141,12 @@ pub fn encode_permutation_6(count: u32, registers: [u8; 6]) -> Encoded
     } else {
         Encoded::Refused
     }
+}
+
+fn wide(x: u8) -> u32
+    ensures { λ r. ⌜ r ≡ x ⌝ }
+{
+    x as u32
 }
 
 // Whether x names a register that is not used yet.

@@ -109,4 +109,4 @@ returns-2 c =
 pub decode-permutation-6-spec : {M : Type 1} → statement M
 decode-permutation-6-spec =
     tie.close
-    (tie.spec Inv-loop2 μ-loop2 Inv-loop μ-loop (λ c κs. search needs) returns mul-row array-copy-out-row loop-holds (λ c. search needs) (λ c. search needs) (λ c κs. search needs) loop2-holds (λ c. search needs) (λ c. search needs) (λ c. search needs) loop2-again (λ c. search needs) (λ c. search needs) (λ c. search needs) (λ c. search needs) (λ c. search needs) (λ c. search needs) loop-again returns-2)
+    (tie.spec Inv-loop2 μ-loop2 Inv-loop μ-loop (λ c κs. search needs) returns mul-row array-copy-out-row loop-holds (λ c. search needs) (λ c κs. search needs) loop2-holds (λ c. search needs) (λ c. search needs) (λ c. search needs) loop2-again (λ c. search needs) (λ c. search needs) (λ c. search needs) (λ c. search needs) (λ c. search needs) (λ c. search needs) loop-again returns-2)

@@ -59,46 +59,46 @@ place-requires : tie.Need-place-requires Inv-loop μ-loop
 place-requires c κs = free c .low
 
 rank-requires : tie.Need-rank-requires Inv-loop μ-loop
-rank-requires c κs = omega (arith, c .place .ensures, free (c .before) .high, c .before .before .before .before .loop .inv .flags)
+rank-requires c κs = omega (arith, c .before .place .ensures, free (c .before .before) .high, c .before .before .before .before .before .loop .inv .flags)
 
 -- a weight times a rank
-product : (c : tie.After-rank Inv-loop μ-loop)
-    → getD (getD rows (c .before .before .before .before .before .before .before .before .args .count) []) (c .before .before .before .before .before .loop .i) 0 * c .rank .result ≤ 720
+product : (c : tie.After-rank Inv-loop μ-loop) → c .before .wide .result * c .rank .result ≤ 720
 unfolding rows
 product c =
-    let n = c .before .before .before .before .before .before .before .before .args .count in
-    let i = c .before .before .before .before .before .loop .i in
-    let h : i < n = c .before .before .before .before .loop-test .taken in
-    mul-le-mul {n₂ = 120} {m₂ = 6} (subst (λ (w : ℕ). w ≤ 120) (getD-take n (getD rows n []) i 0 h) (weight-small n i (omega arith) h)) (c .rank .ensures .1)
+    let n = c .before .before .before .before .before .before .before .before .before .args .count in
+    let i = c .before .before .before .before .before .before .loop .i in
+    let h : i < n = c .before .before .before .before .before .loop-test .taken in
+    let w : c .before .wide .result ≤ 120 =
+    subst (λ (w : ℕ). w ≤ 120) (getD-take n (getD rows n []) i 0 h ∙ sym (c .before .wide .ensures)) (weight-small n i (omega arith) h) in
+    mul-le-mul {n₂ = 120} {m₂ = 6} w (c .rank .ensures .1)
 
-mul-sum-2 : tie.Need-mul-sum-2 Inv-loop μ-loop
-unfolding rows
-mul-sum-2 c = record { fits = omega (arith, product c) }
+mul-sum : tie.Need-mul-sum Inv-loop μ-loop
+mul-sum c = record { fits = omega (arith, product c) }
 
 add-sum : tie.Need-add-sum Inv-loop μ-loop
-unfolding rows
-add-sum c = record { fits = omega (arith, product c, c .before .before .before .before .before .loop .inv .small) }
+add-sum c = record { fits = omega (arith, product c, c .before .before .before .before .before .before .loop .inv .small) }
 
 array-write-used : tie.Need-array-write-used Inv-loop μ-loop
-array-write-used c = omega (arith, c .before .place .ensures, free (c .before .before) .high, c .before .before .before .before .before .loop .inv .flags)
+array-write-used c =
+    omega (arith, c .before .before .place .ensures, free (c .before .before .before) .high, c .before .before .before .before .before .before .loop .inv .flags)
 
 loop-again : tie.Need-loop-again Inv-loop μ-loop
 unfolding rows
 loop-again c =
-    let s = c .before .before .before .before .before .before .before .before in
+    let s = c .before .before .before .before .before .before .before .before .before in
     let n = s .args .count in
-    let l = c .before .before .before .before .before .loop in
-    let h : l .i < n = c .before .before .before .before .loop-test .taken in
-    let f = free (c .before .before) in
+    let l = c .before .before .before .before .before .before .loop in
+    let h : l .i < n = c .before .before .before .before .before .loop-test .taken in
+    let f = free (c .before .before .before) in
     let k : length (take n (s .args .t2)) ≡ n = length-take-le n (s .args .t2) (omega (arith, six s)) in
-    let ew = getD-take n (getD rows n []) (l .i) 0 h in
+    let ew = getD-take n (getD rows n []) (l .i) 0 h ∙ sym (c .before .wide .ensures) in
     let ey = getD-take n (s .args .t2) (l .i) 0 h in
-    let x = c .before .place .result in
+    let p = c .before .before .place in
     let g = next (weights n) (take n (s .args .t2)) (l .used) (l .sum) (l .i) (l .inv) (omega (arith, weights-long n (omega arith))) (omega arith)
-    x (c .rank .result) (c .before .place .ensures ∙ sym ey) (omega (arith, c .before .place .ensures, f .high, l .inv .flags))
-    (f .flag x (c .before .place .ensures)) (c .rank .ensures .0) (c .rank .ensures .1) (weight-small n (l .i) (omega arith) h) in
+    (p .result) (c .rank .result) (p .ensures ∙ sym ey) (omega (arith, p .ensures, f .high, l .inv .flags))
+    (f .flag (p .result) (p .ensures)) (c .rank .ensures .0) (c .rank .ensures .1) (weight-small n (l .i) (omega arith) h) in
     rw (add-one (l .i))
-    (subst (λ (w : ℕ). Turn (weights n) (take n (s .args .t2)) (set (l .used) x 1) (l .sum + w * c .rank .result) (suc (l .i))) ew g)
+    (subst (λ (w : ℕ). Turn (weights n) (take n (s .args .t2)) (set (l .used) (p .result) 1) (l .sum + w * c .rank .result) (suc (l .i))) ew g)
 
 returns-3 : tie.Need-returns-3 Inv-loop μ-loop
 unfolding rows
@@ -119,4 +119,4 @@ returns-4 c =
 pub encode-permutation-6-spec : {M : Type 1} → statement M
 encode-permutation-6-spec =
     tie.close
-    (tie.spec Inv-loop μ-loop returns (λ c. search needs) (λ c. search needs) loop-holds (λ c. search needs) (λ c κs. search needs) returns-2 place-requires (λ c. search needs) (λ c. search needs) rank-requires mul-sum-2 add-sum array-write-used (λ c. search needs) (λ c. search needs) loop-again (λ c κs. search needs) returns-3 returns-4)
+    (tie.spec Inv-loop μ-loop returns (λ c. search needs) (λ c. search needs) loop-holds (λ c. search needs) (λ c κs. search needs) returns-2 place-requires (λ c. search needs) (λ c κs. search needs) rank-requires mul-sum add-sum array-write-used (λ c. search needs) (λ c. search needs) loop-again (λ c κs. search needs) returns-3 returns-4)
