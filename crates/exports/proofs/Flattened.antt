@@ -15,12 +15,10 @@ use Rattle.opcodes.specs.WordsX86 as x86
 use Rattle.opcodes.specs.WordsArm64 as arm
 use Rattle.opcodes.specs.declared.«x86_64».«RegisterNameX86_64».{«RegisterNameX86_64»}
 use Rattle.opcodes.specs.declared.«x86_64».«RegisterNameX86_64».the-variants.{Rbx, R12, R13, R14, R15, Rbp}
-use Rattle.opcodes.specs.declared.«x86_64».Named.{Named}
 use Rattle.opcodes.specs.declared.«x86_64».«OpcodeX86_64».{«OpcodeX86_64»}
-use Rattle.opcodes.specs.declared.arm64.«OpcodeArm64».{«OpcodeArm64»}
 use Rattle.exports.specs.declared.permutations.PermutationAnswer.{PermutationAnswer}
 use Rattle.exports.specs.declared.permutations.EncodingAnswer.{EncodingAnswer}
-use Rattle.exports.specs.Flat.{permutationAnswer, encodingAnswer, dwarfs, registerAnswer, x86Word, x86Answer, number, arm64Answer}
+use Rattle.exports.specs.Flat.{permutationAnswer, encodingAnswer, dwarfs, x86Word, x86Answer, number}
 
 -- a value that is known, through a definition: one step for every answer below
 pub known : {A B C : Type 0} (flat : B → C) (told : A → B) {x y : A} {t : B} → told x ≡ t → x ≡ y → flat (told y) ≡ flat t

@@ -1,9 +1,9 @@
 -- The fields lie where the header's masks have them: reading a field is masking the word and shifting it down, and the masks are the
 -- header's (`compact_unwind_encoding.h`).
 -- Assumes nothing.
-use Prim.Native.Nat.{ℕ, _+_, _-_, _*_, _/_, _%_, _^_}
+use Prim.Native.Nat.{ℕ, _+_, _-_, _/_, _^_}
 use mathlib.Core.Path.{_≡_, refl, ap, _∙_}
-use mathlib.Core.List.{List, [], _∷_, map}
+use mathlib.Core.List.{[], _∷_, map}
 use lib.Bits.{bitAnd, and-high}
 use lib.Pow.{shl-shr}
 use Rattle.opcodes.specs.Bits.{bits}

@@ -1,9 +1,9 @@
 -- What an arm64 word says, once its kind is known, and how many of its pairs are set.
 -- Assumes nothing.
-use Prim.Native.Nat.{ℕ, zero, suc, _+_, _*_, _/_, _%_, _^_, _<_}
-use mathlib.Core.Path.{_≡_, refl, ap, sym, _∙_, subst}
-use mathlib.Core.Bool.{Bool, cond}
-use mathlib.Core.List.{List, [], _∷_}
+use Prim.Native.Nat.{ℕ, zero, suc, _+_, _/_, _%_, _^_, _<_}
+use mathlib.Core.Path.{_≡_, refl, ap, sym, _∙_}
+use mathlib.Core.Bool.{cond}
+use mathlib.Core.List.{_∷_}
 use native.Mathlib.Nat.{div-one, mod-one, mod-lt}
 use native.Mathlib.Numerals.{add-one}
 use lib.Pow.{mod-mod-pow, field, shr-shr}
@@ -12,9 +12,9 @@ use lib.Dec.{eqb}
 use lib.Count.{ones-step}
 use lib.Count as count
 use lib.ListN.{drop}
-use borrow.Author.Tests.{ne-eqb, eq-eqb}
+use borrow.Author.Tests.{ne-eqb}
 use Rattle.opcodes.specs.Bits.{bits, bit, kindOf}
-use Rattle.opcodes.specs.WordsArm64.{Word, dwarf, frameBased, unrecognized, pairs, ones, byKind, parseOf}
+use Rattle.opcodes.specs.WordsArm64.{dwarf, frameBased, unrecognized, pairs, ones, byKind, parseOf}
 
 pub of-kind : (k w : ℕ) → kindOf w ≡ k → parseOf w ≡ byKind k w
 unfolding parseOf

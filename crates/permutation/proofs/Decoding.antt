@@ -2,10 +2,10 @@
 -- Assumes nothing.
 use Prim.Native.Nat.{ℕ, zero, suc, pred, _+_, _-_, _*_, _/_, _%_, _<_, _≤_}
 use mathlib.Core.Path.{_≡_, refl, ap, sym, _∙_, subst}
-use mathlib.Core.Bool.{Bool, true, _&&_}
-use mathlib.Core.List.{List, [], _∷_, _++_, append-assoc, append-nil}
+use mathlib.Core.Bool.{true, _&&_}
+use mathlib.Core.List.{List, _∷_, _++_, append-assoc, append-nil}
 use native.Mathlib.Omega.{arith}
-use native.Mathlib.Nat.{mul-add-div, mul-add-mod-self-left, div-eq-of-lt, mod-eq-of-lt, div-zero, mod-zero, mul-suc, mul-comm, one-mul}
+use native.Mathlib.Nat.{mul-add-div, mul-add-mod-self-left, div-eq-of-lt, mod-eq-of-lt, div-zero, mod-zero, mul-suc, mul-comm}
 use native.Mathlib.Decide.{decLt}
 use lib.Dec.{eqb}
 use lib.ListN.{length, getD, set, take, drop, replicate, length-set, take-append-drop}
@@ -13,9 +13,9 @@ use lib.Seq.{drop-cons, take-suc-set, drop-set-lt, drop-length}
 use Rattle.permutation.specs.Permutation.{digits, named, chosen, without}
 use Rattle.permutation.specs.Flags.{unused, zeros, stepOf}
 use Rattle.permutation.proofs.Tests.{both-eq}
-use Rattle.permutation.proofs.Digits.{radix, Digit, first-digit}
+use Rattle.permutation.proofs.Digits.{radix, first-digit}
 use Rattle.permutation.proofs.Choosing.{length-without}
-use Rattle.permutation.proofs.Flagged.{length-unused, Place, place-of, zeros-more, zeros-same, zeros-all}
+use Rattle.permutation.proofs.Flagged.{length-unused, place-of, zeros-more, zeros-same, zeros-all}
 
 -- The inner loop: the weight was taken off once for each unused register passed, and there are unused ones enough.
 pub record Scan (used : List ℕ) (step whole rest r : ℕ) : Type 0 where

@@ -1,19 +1,19 @@
 -- What holds at each turn of the encoder's loop.
 -- Assumes nothing.
-use Prim.Native.Nat.{ℕ, zero, suc, pred, _+_, _-_, _*_, _<_, _≤_}
+use Prim.Native.Nat.{ℕ, suc, _+_, _*_, _<_, _≤_}
 use mathlib.Core.Path.{_≡_, refl, ap, sym, _∙_, subst}
 use mathlib.Core.Bool.{Bool, true, false, _&&_}
 use mathlib.Core.List.{List, [], _∷_}
 use native.Mathlib.Omega.{arith}
 use native.Mathlib.Nat.{mul-le-mul}
-use lib.Dec.{eqb, leb}
+use lib.Dec.{eqb}
 use lib.ListN.{length, getD, set, take, drop, replicate, length-set}
-use lib.Seq.{drop-cons, drop-length, getD-take, length-take-le}
+use lib.Seq.{drop-cons, drop-length, length-take-le}
 use borrow.Author.Tests.{le-leb, lt-leb}
-use Rattle.permutation.specs.Permutation.{rows, weights, weighted, named, before, without, ranks, member, every, distinct, Written, encoding, listed, encodingOf, encodeOf}
+use Rattle.permutation.specs.Permutation.{weights, weighted, named, before, without, ranks, member, every, Written, encoding, listed, encodingOf, encodeOf}
 use Rattle.permutation.specs.Flags.{unused, zeros}
 use Rattle.permutation.proofs.Choosing.{drawn, drawn-is}
-use Rattle.permutation.proofs.Flagged.{Place, place-of, flag-says, before-says}
+use Rattle.permutation.proofs.Flagged.{place-of, flag-says, before-says}
 
 -- The first i of ys were drawn, and weighed into the sum; the rest is still to be drawn from the unused ones.
 pub record Turn (ws ys used : List ℕ) (sum i : ℕ) : Type 0 where

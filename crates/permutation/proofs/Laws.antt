@@ -1,17 +1,17 @@
 -- What holds of the decoder's and the encoder's definitions, each once over the count.
 -- Assumes nothing.
-use Prim.Native.Nat.{ℕ, zero, suc, pred, _+_, _-_, _*_, _<_, _≤_}
+use Prim.Native.Nat.{ℕ, zero, suc, _-_, _<_, _≤_}
 use mathlib.Core.Path.{_≡_, refl, ap, sym, _∙_, subst}
-use mathlib.Core.Bool.{Bool, true, false, cond, not, _&&_, _||_}
+use mathlib.Core.Bool.{Bool, true, false, cond, _&&_, _||_}
 use mathlib.Core.List.{List, [], _∷_, _++_}
 use native.Mathlib.Omega.{arith}
 use lib.Dec.{eqb, leb, ltb}
-use lib.ListN.{length, getD, take, drop, replicate, length-append, length-replicate, length-drop, take-append-drop}
+use lib.ListN.{length, getD, take, drop, replicate, length-drop, take-append-drop}
 use lib.Seq.{take-at, drop-at, length-take-le}
-use borrow.Author.Tests.{le-leb, lt-leb, lt-ltb, le-ltb, eq-eqb, ne-eqb, leb-true, ltb-true, eqb-true}
+use borrow.Author.Tests.{le-leb, lt-leb, lt-ltb, ne-eqb, leb-true, ltb-true, eqb-true}
 use Rattle.permutation.specs.Permutation.{bounds, weights, digits, weighted, named, chosen, ranks, member, every, distinct, Told, accepted, accepts, registersOf, decodeOf, Written, encoding, listed, encodingOf, encodeOf}
 use Rattle.permutation.proofs.Tests.{both-left, both-right}
-use Rattle.permutation.proofs.Digits.{Small, radix, digits-small, sum-of-digits, length-digits, Weighed, weighed, row-radix, weights-long}
+use Rattle.permutation.proofs.Digits.{Small, radix, digits-small, sum-of-digits, length-digits, weighed, row-radix, weights-long}
 use Rattle.permutation.proofs.Choosing.{drawn, ranks-chosen, Ranked, ranked, drawn-chosen, drawn-is, length-chosen, length-ranks}
 
 -- The encodings that 01 does not refuse: counts up to 6, and below the bound; count 0 refuses none.
@@ -68,6 +68,17 @@ pub row-of : (n : ℕ) → n ≤ 6 → Row n
 row-of zero h = record { bound = 1; spells = refl; named-bound = λ p. absurd (omega arith); none = λ _. refl }
 row-of (suc n) h =
     record { bound = getD bounds (suc n) 0; spells = row-radix (suc n) (omega arith) h; named-bound = λ p. refl; none = λ p. absurd (omega arith) }
+
+-- The digits, first up to 5, next up to 4 and so on, give the number as their weighted sum; and no other such digits do.
+pub digits-give : (n e : ℕ) → 0 < n → n ≤ 6 → e < getD bounds n 0 → (weighted (weights n) (digits (weights n) e) ≡ e) × Small 6 (digits (weights n) e)
+digits-give n e p h b =
+    let t = row-radix n p h in
+    (sum-of-digits (weights n) 6 (getD bounds n 0) e t b, digits-small (weights n) 6 (getD bounds n 0) e t b)
+
+pub digits-only : (n e : ℕ) (ds : List ℕ) → 0 < n → n ≤ 6 → length ds ≡ n → Small 6 ds → weighted (weights n) ds ≡ e → digits (weights n) e ≡ ds
+digits-only n e ds p h l s q =
+    subst (λ (v : ℕ). digits (weights n) v ≡ ds) q
+    (weighed (weights n) ds 6 (getD bounds n 0) (row-radix n p h) (l ∙ sym (weights-long n h)) s .again)
 
 pub encode-cases : (n : ℕ) (xs : List ℕ) (e : ℕ) → encodeOf n xs ≡ encoding e → (n ≤ 6) × (listed n xs ≡ true) × (encodingOf n xs ≡ e)
 unfolding encodeOf

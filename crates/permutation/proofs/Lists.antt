@@ -1,16 +1,16 @@
 -- The lists that the encoder takes, as 01 describes them: exactly those that the test passes.
 -- Assumes nothing.
-use Prim.Native.Nat.{ℕ, zero, suc, pred, _+_, _-_, _<_, _≤_}
-use mathlib.Core.Path.{_≡_, refl, ap, sym, _∙_, subst}
-use mathlib.Core.Bool.{Bool, true, false, cond, not, _&&_, _||_}
+use Prim.Native.Nat.{ℕ, zero, suc, _+_, _-_, _<_, _≤_}
+use mathlib.Core.Path.{_≡_, refl, sym, _∙_, subst}
+use mathlib.Core.Bool.{Bool, true, false, not, _&&_, _||_}
 use mathlib.Core.List.{List, [], _∷_}
 use native.Mathlib.Omega.{arith}
 use native.Mathlib.Nat.{le-of-suc-le-suc, not-suc-le-zero}
-use lib.Dec.{eqb, leb}
+use lib.Dec.{eqb}
 use lib.ListN.{length, getD, take, drop, replicate, length-drop, getD-replicate}
 use lib.Seq.{getD-take, getD-drop, length-take-le}
-use borrow.Author.Tests.{le-leb, leb-true, eqb-true, eqb-false, eq-eqb, ne-eqb, not-true}
-use Rattle.permutation.specs.Permutation.{named, member, every, distinct, Written, encoding, listed, encodingOf, encodeOf}
+use borrow.Author.Tests.{le-leb, eqb-true, eqb-false, eq-eqb, ne-eqb, not-true}
+use Rattle.permutation.specs.Permutation.{named, member, every, distinct, encoding, encodingOf, encodeOf}
 use Rattle.permutation.proofs.Tests.{both-left, both-right, every-at, at-every}
 use Rattle.permutation.proofs.Flagged.{flag-says, free-of}
 use Rattle.permutation.proofs.Laws.{encode-cases}

@@ -11,7 +11,7 @@ use native.Mathlib.Decide.{decLe}
 use borrow.Author.Tests.{le-leb, lt-leb, leb-true, leb-false}
 use lib.ListN.{length, getD, take, drop, length-drop}
 use lib.Seq.{getD-drop, take-all}
-use Rattle.reader.specs.Reader.{Told, value, outside, numberAt, grantedOf, readOf, Bytes}
+use Rattle.reader.specs.Reader.{value, outside, numberAt, grantedOf, readOf, Bytes}
 
 regroup : (a x p y : ℕ) → a + 256 * (x + p * y) ≡ a + 256 * x + p * 256 * y
 regroup a x p y = omega (arith, ap (λ (k : ℕ). k * y) (mul-comm p 256) ∙ mul-assoc 256 p y)

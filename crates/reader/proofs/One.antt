@@ -1,5 +1,5 @@
--- Two answers that conform to a contract `told r ≡ t` are one answer, since what was told gives the answer back. (The contract of
--- `is_granted` gives the answer itself.)
+-- Two answers that conform to a contract are one answer: where it is `r ≡ t`, at once; where it is `told r ≡ t`, since what was told
+-- gives the answer back.
 -- Assumes nothing.
 use mathlib.Core.Path.{_≡_, refl, sym, _∙_}
 use mathlib.Mathlib.Logic.Function.Defs.{LeftInverse, LeftInverse·injective}
@@ -7,6 +7,9 @@ use Rattle.reader.specs.Reader.{Told, value, outside, told16, told32, to
 use Rattle.reader.specs.declared.Read16.{Read16}
 use Rattle.reader.specs.declared.Read32.{Read32}
 use Rattle.reader.specs.declared.Read64.{Read64}
+
+pub one-answer : {A : Type 0} (t x y : A) → x ≡ t → y ≡ t → x ≡ y
+one-answer t x y p q = p ∙ sym q
 
 abbrev back16 : Told → Read16
 back16 (value x) = Read16.Value x

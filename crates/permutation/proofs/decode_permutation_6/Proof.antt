@@ -1,6 +1,6 @@
 -- `permutation::decode_permutation_6` meets its contract: `Turn` holds at each digit, and `Scan` at each register.
 -- Assumes nothing.
-use Prim.Native.Nat.{ℕ, suc, _+_, _-_, _<_, _≤_}
+use Prim.Native.Nat.{ℕ, _+_, _-_, _<_, _≤_}
 use mathlib.Core.Path.{_≡_, ap, sym, _∙_, subst}
 use mathlib.Core.List.{List, []}
 use mathlib.Core.Logic.{⊎-elim}

@@ -1,6 +1,6 @@
 -- `permutation::is_unused` meets its contract: the flag of a register says whether it is unused, and no other number names one.
 -- Assumes nothing.
-use Prim.Native.Nat.{ℕ, suc, _+_}
+use Prim.Native.Nat.{ℕ, _+_}
 use mathlib.Core.Path.{_≡_, ap, sym, _∙_}
 use borrow.Author.Needs.{needs}
 use borrow.Kind.Array.{good-length, eInt}

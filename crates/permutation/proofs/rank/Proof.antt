@@ -1,14 +1,14 @@
 -- `permutation::rank` meets its contract: n counts the zeros among the i flags passed.
 -- Assumes nothing.
 use Prim.Native.Nat.{ℕ, suc, _+_, _-_, _<_, _≤_}
-use mathlib.Core.Path.{_≡_, refl, ap, sym, _∙_}
+use mathlib.Core.Path.{_≡_, refl, ap, _∙_}
 use mathlib.Core.Logic.{⊎-elim}
 use borrow.Author.Needs.{needs}
 use borrow.Kind.Array.{good-length, eInt}
 use mir.Syntax.{w8}
 use native.Mathlib.Omega.{arith}
 use native.Mathlib.Numerals.{add-one}
-use lib.ListN.{length, getD, take}
+use lib.ListN.{length, take}
 use Rattle.permutation.specs.Flags.{zeros}
 use Rattle.permutation.proofs.Flagged.{zeros-more, zeros-same}
 use Rattle.permutation.proofs.rank.Statement.{statement}

@@ -3,7 +3,6 @@
 use borrow.Author.Needs.{needs}
 use Prim.Native.Nat.{ℕ, zero, suc}
 use mathlib.Core.Path.{_≡_, refl}
-use native.Mathlib.Omega.{arith}
 use Rattle.permutation.specs.Flags.{stepOf}
 use Rattle.permutation.proofs.step_of.Statement.{statement}
 use Rattle.permutation.proofs.step_of.Tie as tie

@@ -1,7 +1,6 @@
 -- `opcodes::arm64::pair_count` meets its contract.
 -- Assumes nothing.
 use Prim.Native.Nat.{_%_}
-use borrow.Author.Needs.{needs}
 use native.Mathlib.Nat.{mod-lt}
 use native.Mathlib.Omega.{arith}
 use lib.Count.{ones-le}

@@ -1,7 +1,7 @@
 -- `replay_opcodes::records::answer` meets its contract: in each arm the tag is known.
 -- Assumes nothing.
 use Prim.Native.Nat.{ℕ}
-use mathlib.Core.Path.{_≡_, ap, sym, _∙_}
+use mathlib.Core.Path.{ap, sym, _∙_}
 use borrow.Author.Needs.{needs}
 use borrow.Author.Tests.{ne-eqb}
 use Rattle.replay_opcodes.specs.Records.{answerOf}

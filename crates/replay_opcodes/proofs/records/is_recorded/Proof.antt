@@ -1,6 +1,6 @@
 -- `replay_opcodes::records::is_recorded` meets its contract: what was passed is recorded.
 -- Assumes nothing.
-use Prim.Native.Nat.{ℕ, suc, _+_, _-_, _*_, _≤_}
+use Prim.Native.Nat.{ℕ, _+_, _-_, _*_, _≤_}
 use mathlib.Core.Path.{_≡_, ap, sym, _∙_}
 use borrow.Author.Needs.{needs}
 use borrow.Kind.Array.{good-length, eInt}

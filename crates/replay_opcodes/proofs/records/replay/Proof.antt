@@ -1,12 +1,11 @@
 -- `replay_opcodes::records::replay` meets its contract: at each turn the records passed are counted.
 -- Assumes nothing.
-use Prim.Native.Nat.{ℕ, suc, _+_, _-_, _*_, _/_, _<_, _≤_}
+use Prim.Native.Nat.{ℕ, _+_, _-_, _/_, _<_, _≤_}
 use mathlib.Core.Path.{_≡_, ap, sym, _∙_}
 use borrow.Author.Needs.{needs}
 use denote.Ref.{now}
 use native.Mathlib.Omega.{arith}
 use native.Mathlib.Numerals.{add-one}
-use native.Mathlib.Nat.{mul-div-le}
 use lib.ListN.{length}
 use Rattle.replay_opcodes.specs.declared.records.Tally.{Tally}
 use Rattle.replay_opcodes.specs.Records.{count, tagged, differs, tallyOf}

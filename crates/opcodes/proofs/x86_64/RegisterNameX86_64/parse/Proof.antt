@@ -1,10 +1,10 @@
 -- `opcodes::x86_64::RegisterNameX86_64::parse` meets its contract: in each arm the number is known.
 -- Assumes nothing.
-use Prim.Native.Nat.{ℕ, zero, suc, _≤_}
-use mathlib.Core.Path.{_≡_, refl, ap, sym, _∙_}
+use Prim.Native.Nat.{ℕ, zero, suc}
+use mathlib.Core.Path.{_≡_, refl, ap, sym}
 use native.Mathlib.Omega.{arith}
 use borrow.Author.Tests.{lt-leb, le-leb}
-use Rattle.opcodes.specs.Registers.{register, none, namedOf}
+use Rattle.opcodes.specs.Registers.{none, namedOf}
 use Rattle.opcodes.proofs.x86_64.RegisterNameX86_64.parse.Statement.{statement}
 use Rattle.opcodes.proofs.x86_64.RegisterNameX86_64.parse.Tie as tie
 
