@@ -31,7 +31,7 @@ pub data Told : Type 0 where
   none : Told
 
 -- The numbers from 1 to 6 name a register; 0 and 7 name none, and nor does any other.
-unfoldable pub namedOf : ℕ → Told
+abbrev pub namedOf : ℕ → Told
 namedOf n = cond (leb 1 n && leb n 6) (register n) none
 
 abbrev pub told : Named → Told

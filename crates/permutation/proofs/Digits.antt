@@ -106,6 +106,14 @@ unfolding good rows bounds
 row-radix zero p h = absurd (omega arith)
 row-radix (suc n) p h = below-at good 6 refl n h
 
+-- the first refused encoding is six first weights
+bounded : ℕ → Bool
+bounded n = eqb (6 * getD (getD rows n []) 0 0) (getD bounds n 0)
+
+pub row-bound : (n : ℕ) → n ≤ 6 → 6 * getD (getD rows n []) 0 0 ≡ getD bounds n 0
+unfolding bounded rows bounds
+row-bound n h = eqb-true (6 * getD (getD rows n []) 0 0) (getD bounds n 0) (below-at bounded 7 refl n (omega arith))
+
 long : ℕ → Bool
 long n = eqb (length (getD rows n [])) 6
 

@@ -1,9 +1,10 @@
 // The permutation field of a frameless word: which registers were pushed, and in what order.
+ghost use mathlib.Core.Bool.{_||_};
 ghost use mathlib.Core.Path.{_≡_};
-ghost use Prim.Native.Nat.{suc, _≤_, _<_};
-ghost use lib.ListN.{take, drop};
-ghost use lib.Dec.{eqb};
-ghost use Rattle.permutation.specs.Permutation.{accepts, decodeOf, encodeOf, told, toldEncoded, decodedNumber, encodedNumber, member, every};
+ghost use Prim.Native.Nat.{suc, _*_, _≤_, _<_};
+ghost use lib.ListN.{take, drop, replicate};
+ghost use lib.Dec.{eqb, ltb};
+ghost use Rattle.permutation.specs.Permutation.{Told, decodeOf, encodeOf, told, toldEncoded, decodedNumber, encodedNumber, member, every};
 ghost use Rattle.permutation.specs.Flags.{unused, zeros, stepOf};
 
 // The weights of the digits, by the count of registers. Bytes, since a constant array is laid out anew where it is used.
@@ -58,15 +59,15 @@ impl Encoded {
 pub fn decode_permutation_6(count: u32, encoding: u32) -> Permutation
     ensures { λ r. ⌜ told r ≡ decodeOf count encoding ⌝ }
 {
-    let mut registers = [0u8; 6];
-    if !is_accepted(count, encoding) {
-        return Permutation {
-            decoded: Decoded::Refused,
-            registers,
-        };
+    if 6 < count {
+        return refused();
     }
     let n = count as usize;
     let row = WEIGHTS[n];
+    if !is_below(n, encoding, row[0]) {
+        return refused();
+    }
+    let mut registers = [0u8; 6];
     let mut used = [0u8; 6];
     let mut rest = encoding;
     let mut i = 0;
@@ -93,19 +94,23 @@ pub fn decode_permutation_6(count: u32, encoding: u32) -> Permutation
     }
 }
 
-fn is_accepted(count: u32, encoding: u32) -> bool
-    ensures { λ r. ⌜ r ≡ accepts count encoding ⌝ }
+fn refused() -> Permutation
+    ensures { λ r. ⌜ told r ≡ Told.refused 23 (replicate 6 0) ⌝ }
 {
-    match count {
-        0 => true,
-        1 => encoding < 6,
-        2 => encoding < 30,
-        3 => encoding < 120,
-        4 => encoding < 360,
-        5 => encoding < 720,
-        6 => encoding < 720,
-        _ => false,
+    Permutation {
+        decoded: Decoded::Refused,
+        registers: [0u8; 6],
     }
+}
+
+// The first digit is up to 5, so the first refused encoding is six times the first weight. Count 0 refuses none.
+fn is_below(n: usize, encoding: u32, first: u8) -> bool
+    ensures { λ r. ⌜ r ≡ (eqb n 0 || ltb encoding (6 * first)) ⌝ }
+{
+    if n == 0 {
+        return true;
+    }
+    encoding < 6 * wide(first)
 }
 
 // What is taken off for each unused register passed.
