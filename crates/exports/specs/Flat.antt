@@ -16,7 +16,7 @@ use Rattle.exports.specs.declared.words.RegisterAnswer.{RegisterAnswer}
 use Rattle.exports.specs.declared.words.«OpcodeX86_64Answer».{«OpcodeX86_64Answer»}
 use Rattle.exports.specs.declared.words.«OpcodeArm64Answer».{«OpcodeArm64Answer»}
 
-unfoldable pub readAnswer : reader.Told → ReadAnswer
+abbrev pub readAnswer : reader.Told → ReadAnswer
 readAnswer (reader.value x) = record { granted = 1; value = x }
 readAnswer reader.outside = record { granted = 0; value = 0 }
 

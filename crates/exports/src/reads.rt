@@ -1,6 +1,6 @@
 // Reads of little-endian numbers.
 ghost use mathlib.Core.Path.{_≡_};
-ghost use Rattle.reader.specs.Reader.{grantedOf, readOf};
+ghost use Rattle.reader.specs.Reader.{Told, value, grantedOf, readOf};
 ghost use Rattle.exports.specs.Flat.{readAnswer};
 use reader::Read16;
 use reader::Read32;
@@ -25,15 +25,9 @@ pub extern "C" fn brasspurse_read_u16(section: &[u8], offset: usize) -> ReadAnsw
     ensures { λ r. ⌜ r ≡ readAnswer (readOf 2 (now (section .entry)) offset) ⌝ }
 {
     let Read16::Value(x) = reader::read_u16(section, offset) else {
-        return ReadAnswer {
-            granted: 0,
-            value: 0,
-        };
+        return outside();
     };
-    ReadAnswer {
-        granted: 1,
-        value: x as u64,
-    }
+    granted(x as u64)
 }
 
 #[no_mangle]
@@ -41,15 +35,9 @@ pub extern "C" fn brasspurse_read_u32(section: &[u8], offset: usize) -> ReadAnsw
     ensures { λ r. ⌜ r ≡ readAnswer (readOf 4 (now (section .entry)) offset) ⌝ }
 {
     let Read32::Value(x) = reader::read_u32(section, offset) else {
-        return ReadAnswer {
-            granted: 0,
-            value: 0,
-        };
+        return outside();
     };
-    ReadAnswer {
-        granted: 1,
-        value: x as u64,
-    }
+    granted(x as u64)
 }
 
 #[no_mangle]
@@ -57,13 +45,25 @@ pub extern "C" fn brasspurse_read_u64(section: &[u8], offset: usize) -> ReadAnsw
     ensures { λ r. ⌜ r ≡ readAnswer (readOf 8 (now (section .entry)) offset) ⌝ }
 {
     let Read64::Value(x) = reader::read_u64(section, offset) else {
-        return ReadAnswer {
-            granted: 0,
-            value: 0,
-        };
+        return outside();
     };
+    granted(x)
+}
+
+fn granted(x: u64) -> ReadAnswer
+    ensures { λ r. ⌜ r ≡ readAnswer (value x) ⌝ }
+{
     ReadAnswer {
         granted: 1,
         value: x,
+    }
+}
+
+fn outside() -> ReadAnswer
+    ensures { λ r. ⌜ r ≡ readAnswer Told.outside ⌝ }
+{
+    ReadAnswer {
+        granted: 0,
+        value: 0,
     }
 }
