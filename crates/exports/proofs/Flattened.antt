@@ -1,10 +1,9 @@
 -- What was told of an answer, once its case is known, flat.
 -- Assumes nothing.
-use Prim.Native.Nat.{ℕ, pred, _+_, _*_}
+use Prim.Native.Nat.{ℕ, _+_, _*_}
 use mathlib.Core.Path.{_≡_, refl, ap, sym, _∙_}
 use mathlib.Core.Bool.{Bool, cond}
 use mathlib.Core.List.{List, _∷_}
-use lib.ListN.{getD}
 use Rattle.reader.specs.Reader as reader
 use Rattle.permutation.specs.Permutation as permutation
 use Rattle.permutation.specs.declared.Decoded.{Decoded}
@@ -13,12 +12,10 @@ use Rattle.permutation.specs.declared.Encoded.{Encoded}
 use Rattle.opcodes.specs.Registers as registers
 use Rattle.opcodes.specs.WordsX86 as x86
 use Rattle.opcodes.specs.WordsArm64 as arm
-use Rattle.opcodes.specs.declared.«x86_64».«RegisterNameX86_64».{«RegisterNameX86_64»}
-use Rattle.opcodes.specs.declared.«x86_64».«RegisterNameX86_64».the-variants.{Rbx, R12, R13, R14, R15, Rbp}
 use Rattle.opcodes.specs.declared.«x86_64».«OpcodeX86_64».{«OpcodeX86_64»}
 use Rattle.exports.specs.declared.permutations.PermutationAnswer.{PermutationAnswer}
 use Rattle.exports.specs.declared.permutations.EncodingAnswer.{EncodingAnswer}
-use Rattle.exports.specs.Flat.{permutationAnswer, encodingAnswer, dwarfs, x86Word, x86Answer, number}
+use Rattle.exports.specs.Flat.{permutationAnswer, encodingAnswer, x86Word, x86Answer, number}
 
 -- a value that is known, through a definition: one step for every answer below
 pub known : {A B C : Type 0} (flat : B → C) (told : A → B) {x y : A} {t : B} → told x ≡ t → x ≡ y → flat (told y) ≡ flat t
@@ -48,15 +45,6 @@ pub encoding-flat : (e k : Encoded) (n : ℕ) (t : permutation.Written) → n �
 encoding-flat e k n t q r p =
     ap {B = EncodingAnswer} (λ (m : ℕ). record { refusal = m; encoding = valueOf k }) (q ∙ ap permutation.encodedNumber p)
     ∙ encoding-case k ∙ known encodingAnswer permutation.toldEncoded r p
-
--- the list of DWARF's numbers has each register's at its own number
-pub dwarf-listed : (r : «RegisterNameX86_64») → registers.dwarfOf r ≡ getD dwarfs (pred (registers.numberOf r)) 0
-dwarf-listed Rbx = refl
-dwarf-listed R12 = refl
-dwarf-listed R13 = refl
-dwarf-listed R14 = refl
-dwarf-listed R15 = refl
-dwarf-listed Rbp = refl
 
 pub x86-flat : (saved : List ℕ) (o k : «OpcodeX86_64») (t : x86.Told) → _≡_ {A = x86.Told} (record { word = x86.wordOf o; saved = saved }) t → o ≡ k
     → x86Word (x86.wordOf k) saved ≡ x86Answer t

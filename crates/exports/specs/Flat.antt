@@ -28,12 +28,8 @@ unfoldable pub encodingAnswer : permutation.Written → EncodingAnswer
 encodingAnswer (permutation.encoding e) = record { refusal = 0; encoding = e }
 encodingAnswer (permutation.Written.refused k) = record { refusal = k; encoding = 0 }
 
--- DWARF's numbers of the registers 1 to 6
-abbrev pub dwarfs : List ℕ
-dwarfs = 3 ∷ 12 ∷ 13 ∷ 14 ∷ 15 ∷ 6 ∷ []
-
 unfoldable pub registerAnswer : registers.Told → RegisterAnswer
-registerAnswer (registers.register n) = record { named = 1; «dwarf_number» = getD dwarfs (pred n) 0 }
+registerAnswer (registers.register n) = record { named = 1; «dwarf_number» = getD registers.dwarfs (pred n) 0 }
 registerAnswer registers.none = record { named = 0; «dwarf_number» = 0 }
 
 abbrev pub x86Case : ℕ → ℕ → ℕ → List ℕ → «OpcodeX86_64Answer»

@@ -22,8 +22,8 @@ pub struct RegisterAnswer {
 }
 
 // answer is 0 null, 1 frame-based, 2 frameless immediate, 3 frameless indirect, 4 DWARF, 5 invalid frameless, 6 unrecognised kind.
-// value is 1: the offset in bytes; 2: the size in bytes; 3: the immediate's place; 4: the 24 bits; 6: the kind; else 0. Place k of
-// saved_regs has field k of a frame-based word, or the k-th register of a frameless one. Small enough for two registers.
+// value goes by the answer: for 1 the offset in bytes, for 2 the size in bytes, for 3 the immediate's place, for 4 the 24 bits, for 6 the
+// kind, else 0. Place k of saved_regs has field k of a frame-based word, or the k-th register of a frameless one.
 #[repr(C)]
 pub struct OpcodeX86_64Answer {
     pub value: u32,
@@ -32,8 +32,9 @@ pub struct OpcodeX86_64Answer {
     pub saved_regs: [u8; 6],
 }
 
-// answer is 0 null, 1 frameless, 2 DWARF, 3 frame-based, 4 unrecognised kind. value is 1: the size in bytes; 2: the 24 bits; 4: the
-// kind; else 0. saved_pairs has a bit for each pair of a frame-based word: x19/x20 lowest, .. x27/x28, then d8/d9, .. d14/d15.
+// answer is 0 null, 1 frameless, 2 DWARF, 3 frame-based, 4 unrecognised kind. value goes by the answer: for 1 the size in bytes, for 2 the
+// 24 bits, for 4 the kind, else 0. saved_pairs has a bit for each pair of a frame-based word: x19/x20 lowest, .. x27/x28, then d8/d9, ..
+// d14/d15.
 #[repr(C)]
 pub struct OpcodeArm64Answer {
     pub value: u32,

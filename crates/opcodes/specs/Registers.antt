@@ -1,8 +1,10 @@
 -- The registers of x86_64 that a word can list: document 01, "Opcode words".
 -- Assumes nothing.
-use Prim.Native.Nat.{ℕ}
+use Prim.Native.Nat.{ℕ, pred}
 use mathlib.Core.Bool.{cond, _&&_}
+use mathlib.Core.List.{List, [], _∷_}
 use lib.Dec.{leb}
+use lib.ListN.{getD}
 use Rattle.opcodes.specs.declared.«x86_64».«RegisterNameX86_64».{«RegisterNameX86_64»}
 use Rattle.opcodes.specs.declared.«x86_64».«RegisterNameX86_64».the-variants.{Rbx, R12, R13, R14, R15, Rbp}
 use Rattle.opcodes.specs.declared.«x86_64».Named.{Named}
@@ -16,14 +18,12 @@ numberOf R14 = 4
 numberOf R15 = 5
 numberOf Rbp = 6
 
--- DWARF's numbering.
+-- DWARF's numbers of the registers 1 to 6.
+abbrev pub dwarfs : List ℕ
+dwarfs = 3 ∷ 12 ∷ 13 ∷ 14 ∷ 15 ∷ 6 ∷ []
+
 abbrev pub dwarfOf : «RegisterNameX86_64» → ℕ
-dwarfOf Rbx = 3
-dwarfOf R12 = 12
-dwarfOf R13 = 13
-dwarfOf R14 = 14
-dwarfOf R15 = 15
-dwarfOf Rbp = 6
+dwarfOf r = getD dwarfs (pred (numberOf r)) 0
 
 -- What a number names: a register, told by its number, or none.
 pub data Told : Type 0 where

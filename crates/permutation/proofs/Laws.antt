@@ -66,12 +66,11 @@ pub record Row (n : ℕ) : Type 0 where
   pub bound : ℕ
   pub spells : radix (weights n) 6 bound ≡ true
   pub named-bound : 0 < n → bound ≡ getD bounds n 0
-  pub none : n ≡ 0 → bound ≡ 1
 
 pub row-of : (n : ℕ) → n ≤ 6 → Row n
-row-of zero h = record { bound = 1; spells = refl; named-bound = λ p. absurd (omega arith); none = λ _. refl }
+row-of zero h = record { bound = 1; spells = refl; named-bound = λ p. absurd (omega arith) }
 row-of (suc n) h =
-    record { bound = getD bounds (suc n) 0; spells = row-radix (suc n) (omega arith) h; named-bound = λ p. refl; none = λ p. absurd (omega arith) }
+    record { bound = getD bounds (suc n) 0; spells = row-radix (suc n) (omega arith) h; named-bound = λ p. refl }
 
 -- The digits, first up to 5, next up to 4 and so on, give the number as their weighted sum; and no other such digits do.
 pub digits-give : (n e : ℕ) → 0 < n → n ≤ 6 → e < getD bounds n 0 → (weighted (weights n) (digits (weights n) e) ≡ e) × Small 6 (digits (weights n) e)

@@ -84,6 +84,7 @@ pub data Told : Type 0 where
   accepted : List ℕ → Told
   refused : ℕ → List ℕ → Told
 
+-- Counts above 6 are refused, and encodings from the bound on.
 abbrev pub accepts : ℕ → ℕ → Bool
 accepts n e = leb n 6 && (eqb n 0 || ltb e (getD bounds n 0))
 

@@ -19,15 +19,16 @@ abbrev pub orZero : Told → ℕ
 orZero (value x) = x
 orZero outside = 0
 
-unfoldable pub wordAt : List ℕ → ℕ → ℕ
-wordAt s at = orZero (readOf 4 s at)
+-- the number of n bytes, or 0 where it does not lie in the list whole
+unfoldable pub numberOr0 : ℕ → List ℕ → ℕ → ℕ
+numberOr0 n s at = orZero (readOf n s at)
 
-unfoldable pub halfAt : List ℕ → ℕ → ℕ
-halfAt s at = orZero (readOf 2 s at)
+abbrev pub wordAt : List ℕ → ℕ → ℕ
+wordAt s at = numberOr0 4 s at
 
 -- an answer's five numbers: its case, two values, and six registers as bytes in two numbers
 abbrev pub rowOf : ℕ → ℕ → ℕ → List ℕ → List ℕ
-rowOf answer first second regs = answer ∷ first ∷ second ∷ wordAt regs 0 ∷ halfAt regs 4 ∷ []
+rowOf answer first second regs = answer ∷ first ∷ second ∷ wordAt regs 0 ∷ numberOr0 2 regs 4 ∷ []
 
 abbrev pub permutationRow : PermutationAnswer → List ℕ
 permutationRow p = rowOf (p .refusal) 0 0 (p .registers)

@@ -3,7 +3,7 @@ ghost use mathlib.Core.Bool.{cond};
 ghost use mathlib.Core.Path.{_≡_};
 ghost use Prim.Native.Nat.{_+_, _≤_};
 ghost use lib.ListN.{length};
-ghost use Rattle.replay_opcodes.specs.Records.{wordAt, halfAt, rowOf, permutationRow, x86Row, arm64Row, answerOf, recorded, agreesAt, tagged, differs, tallyOf};
+ghost use Rattle.replay_opcodes.specs.Records.{numberOr0, wordAt, rowOf, permutationRow, x86Row, arm64Row, answerOf, recorded, agreesAt, tagged, differs, tallyOf};
 ghost use Rattle.permutation.specs.Permutation.{decodeOf};
 ghost use Rattle.opcodes.specs.WordsX86 as x86;
 ghost use Rattle.opcodes.specs.WordsArm64 as arm;
@@ -144,7 +144,7 @@ fn word(s: &[u8], at: usize) -> u32
 }
 
 fn half(s: &[u8], at: usize) -> u16
-    ensures { λ r. ⌜ r ≡ halfAt (now (s .entry)) at ⌝ }
+    ensures { λ r. ⌜ r ≡ numberOr0 2 (now (s .entry)) at ⌝ }
 {
     let Read16::Value(x) = reader::read_u16(s, at) else {
         return 0;

@@ -6,7 +6,7 @@ use borrow.Author.Needs.{needs}
 use Rattle.opcodes.specs.Registers.{told}
 use Rattle.exports.specs.declared.words.RegisterAnswer.{RegisterAnswer}
 use Rattle.exports.specs.Flat.{registerAnswer}
-use Rattle.exports.proofs.Flattened.{known, dwarf-listed}
+use Rattle.exports.proofs.Flattened.{known}
 use Rattle.exports.proofs.words.brasspurse_register_x86_64.Statement.{statement}
 use Rattle.exports.proofs.words.brasspurse_register_x86_64.Tie as tie
 
@@ -17,7 +17,7 @@ returns c = known registerAnswer told (c .before .before .parse .ensures) (c .en
 returns-2 : tie.Need-returns-2
 unfolding registerAnswer
 returns-2 c =
-    ap {B = RegisterAnswer} (λ (n : ℕ). record { named = 1; «dwarf_number» = n }) (c .dwarf-number .ensures ∙ dwarf-listed (c .before .before .name .given .0 .0))
+    ap {B = RegisterAnswer} (λ (n : ℕ). record { named = 1; «dwarf_number» = n }) (c .dwarf-number .ensures)
     ∙ known registerAnswer told (c .before .before .before .before .parse .ensures) (c .before .before .name .given .1)
 
 pub brasspurse-register-x86-64-spec : {M : Type 1} → statement M
