@@ -3,7 +3,7 @@
 use Prim.Native.Nat.{ℕ, zero, suc, _+_, _*_, _<_}
 use mathlib.Core.List.{List}
 use mathlib.Core.Bool.{Bool, cond}
-use lib.ListN.{length, getD}
+use lib.ListN.{length, getD, take, drop}
 use lib.Dec.{leb}
 use Rattle.reader.specs.declared.Read16.{Read16}
 use Rattle.reader.specs.declared.Read32.{Read32}
@@ -37,6 +37,18 @@ told32 Read32.Outside = outside
 abbrev pub told64 : Read64 → Told
 told64 (Read64.Value x) = value x
 told64 Read64.Outside = outside
+
+-- the number of n bytes at o, or 0 where they are not granted
+abbrev pub orZero : Told → ℕ
+orZero (value x) = x
+orZero outside = 0
+
+unfoldable pub wordAt : ℕ → List ℕ → ℕ → ℕ
+wordAt n s o = orZero (readOf n s o)
+
+-- the part of n bytes that starts at o, or what there is of it
+unfoldable pub partOf : List ℕ → ℕ → ℕ → List ℕ
+partOf s o n = take n (drop o s)
 
 -- the numbers of the list are bytes
 abbrev pub Bytes : List ℕ → Type 0

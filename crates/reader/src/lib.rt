@@ -2,7 +2,8 @@
 ghost use mathlib.Core.Path.{_≡_};
 ghost use Prim.Native.Nat.{_+_, _≤_, _<_};
 ghost use lib.ListN.{length};
-ghost use Rattle.reader.specs.Reader.{numberAt, grantedOf, readOf, told16, told32, told64};
+ghost use mathlib.Core.List.{[], _∷_};
+ghost use Rattle.reader.specs.Reader.{numberAt, grantedOf, readOf, wordAt, partOf, told16, told32, told64};
 
 pub enum Read16 {
     Value(u16),
@@ -60,6 +61,46 @@ pub fn read_u64(s: &[u8], offset: usize) -> Read64
     } else {
         Read64::Outside
     }
+}
+
+// The number there, or 0 where the read is not granted.
+pub fn u16_or_0(s: &[u8], offset: usize) -> u16
+    ensures { λ r. ⌜ r ≡ wordAt 2 (now (s .entry)) offset ⌝ }
+{
+    let Read16::Value(x) = read_u16(s, offset) else {
+        return 0;
+    };
+    x
+}
+
+pub fn u32_or_0(s: &[u8], offset: usize) -> u32
+    ensures { λ r. ⌜ r ≡ wordAt 4 (now (s .entry)) offset ⌝ }
+{
+    let Read32::Value(x) = read_u32(s, offset) else {
+        return 0;
+    };
+    x
+}
+
+// The four bytes as a number, the first least significant.
+pub fn from_le_bytes(a: u8, b: u8, c: u8, d: u8) -> u32
+    ensures { λ r. ⌜ r ≡ numberAt 4 (a ∷ b ∷ c ∷ d ∷ []) 0 ⌝ }
+{
+    a as u32 + 256 * b as u32 + 65536 * c as u32 + 16777216 * d as u32
+}
+
+// The n bytes from the offset on, or what there is of them.
+pub fn part(s: &[u8], offset: usize, n: usize) -> &[u8]
+    ensures { λ r. ⌜ now r ≡ partOf (now (s .entry)) offset n ⌝ }
+{
+    if s.len() < offset {
+        return &s[..0];
+    }
+    if s.len() - offset < n {
+        return &s[offset..];
+    }
+    let end = offset + n;
+    &s[offset..end]
 }
 
 fn two(s: &[u8], at: usize) -> u16

@@ -1,0 +1,14 @@
+-- `entries::open_at` meets its contract: the page that the entry names.
+-- Assumes nothing.
+use borrow.Author.Needs.{needs}
+use Rattle.entries.proofs.Places.{opens-there}
+use Rattle.entries.proofs.open_at.Statement.{statement}
+use Rattle.entries.proofs.open_at.Tie as tie
+
+returns : tie.Need-returns
+returns c = opens-there _ _ _ _ (c .before .before .before .pages .ensures) _ _ _ (c .before .before .first-address .ensures) (c .before .page-offset .ensures) (c .open-page .ensures)
+
+pub open-at-spec : {M : Type 1} → statement M
+open-at-spec =
+    tie.close
+    (tie.spec (λ c κs. search needs) (λ c κs. search needs) (λ c κs. search needs) (λ c κs. search needs) returns)

@@ -1,0 +1,83 @@
+-- The functions of a page: document 01, "Section layout".
+-- Assumes nothing.
+use Prim.Native.Nat.{ℕ, suc, _+_, _-_, _*_, _/_}
+use mathlib.Core.List.{List, []}
+use mathlib.Core.Bool.{Bool, cond, _||_}
+use lib.ListN.{length}
+use lib.Dec.{ltb}
+use Rattle.reader.specs.Reader.{grantedOf, wordAt, partOf}
+use Rattle.search.specs.Search.{sizeOf, keyOf}
+use Rattle.raw.specs.declared.Kind.{Kind}
+use Rattle.raw.specs.declared.Page.{Page}
+use Rattle.raw.specs.Checked.{Checked, good, refused, _>>=_, _>>_, check, numberOf}
+use Rattle.raw.specs.Raw.{layout, localsGranted}
+use Rattle.entries.specs.declared.Function.{Function}
+use Rattle.entries.specs.declared.Answer.{Answer}
+use Rattle.entries.specs.declared.Resolved.{Resolved}
+
+-- a page's functions and its local opcodes, as parts of it
+unfoldable pub functionsOf : List ℕ → Page → List ℕ
+functionsOf page pg = partOf page (pg .«functions_offset») (sizeOf (layout (pg .kind)) * pg .«functions_len»)
+
+unfoldable pub localsOf : List ℕ → Page → List ℕ
+localsOf page pg = partOf page (pg .«local_opcodes_offset») (4 * pg .«local_opcodes_len»)
+
+-- the four bytes at o, or none
+unfoldable pub fourOf : List ℕ → ℕ → List ℕ
+fourOf s o = cond (grantedOf 4 s o) (partOf s o 4) []
+
+-- an index below the global count names a global opcode; otherwise the global count is subtracted and the local list taken
+unfoldable pub isGlobal : List ℕ → ℕ → Bool
+isGlobal globals index = ltb index (length globals / 4)
+
+unfoldable pub opcodePart : List ℕ → List ℕ → ℕ → List ℕ
+opcodePart globals locals index = cond (isGlobal globals index) (fourOf globals (4 * index)) (fourOf locals (4 * (index - length globals / 4)))
+
+-- over the list of functions: start and end of function i, whole numbers
+module _ (functions : List ℕ) (pg : Page) where
+  unfoldable pub startIn : ℕ → ℕ
+  startIn i = pg .base + keyOf functions (layout (pg .kind)) i
+
+  unfoldable pub endIn : (next : ℕ) → ℕ → ℕ
+  endIn next i = cond (ltb (suc i) (pg .«functions_len»)) (startIn (suc i)) next
+
+-- the opcode that an index names, where `there` says that the local opcodes are: they count for a local index alone
+unfoldable pub resolveOf : List ℕ → List ℕ → Bool → ℕ → Checked ℕ
+resolveOf globals locals there index = do
+  check 11 (isGlobal globals index || there)
+  check 14 (grantedOf 4 (opcodePart globals locals index) 0)
+  good (wordAt 4 (opcodePart globals locals index) 0)
+
+unfoldable pub opcodeIn : Kind → List ℕ → List ℕ → Bool → List ℕ → ℕ → Checked ℕ
+opcodeIn Kind.Regular globals locals there functions i = good (wordAt 4 functions (8 * i + 4))
+opcodeIn Kind.Compressed globals locals there functions i = resolveOf globals locals there (wordAt 4 functions (4 * i) / 16777216)
+
+unfoldable pub functionIn : List ℕ → List ℕ → Bool → List ℕ → Page → ℕ → ℕ → Checked Function
+functionIn globals locals there functions pg next i = do
+  check 13 (ltb (startIn functions pg i) 4294967296)
+  check 13 (ltb (endIn functions pg next i) 4294967296)
+  opcode ← opcodeIn (pg .kind) globals locals there functions i
+  good (record { «start_address» = startIn functions pg i; «end_address» = endIn functions pg next i; opcode = opcode })
+
+-- over the page
+module _ (page : List ℕ) (pg : Page) where
+  unfoldable pub startOf : ℕ → ℕ
+  startOf i = startIn (functionsOf page pg) pg i
+
+  unfoldable pub endOf : (next : ℕ) → ℕ → ℕ
+  endOf next i = endIn (functionsOf page pg) pg next i
+
+  unfoldable pub opcodeOf : List ℕ → ℕ → Checked ℕ
+  opcodeOf globals i = opcodeIn (pg .kind) globals (localsOf page pg) (localsGranted page pg) (functionsOf page pg) i
+
+  unfoldable pub functionOf : List ℕ → (next : ℕ) → ℕ → Checked Function
+  functionOf globals next i = functionIn globals (localsOf page pg) (localsGranted page pg) (functionsOf page pg) pg next i
+
+-- what the answers tell
+abbrev pub functionTold : Answer → Checked Function
+functionTold (Answer.Function f) = good f
+functionTold (Answer.Refused e) = refused (numberOf e)
+
+abbrev pub opcodeTold : Resolved → Checked ℕ
+opcodeTold (Resolved.Opcode x) = good x
+opcodeTold (Resolved.Refused e) = refused (numberOf e)

@@ -1,0 +1,6 @@
+pub mod Iteration
+pub mod Members
+pub mod Loop
+pub mod Cases
+pub mod One
+pub mod Left

@@ -1,0 +1,163 @@
+// Iteration by a cursor, and the range of addresses.
+ghost use mathlib.Core.Path.{_≡_};
+ghost use Prim.Native.Nat.{_-_, _+_, _≤_, _<_};
+ghost use lib.ListN.{length};
+ghost use Rattle.raw.specs.Checked.{good};
+ghost use Rattle.raw.specs.Raw.{pageTold, pagesOf, globalsOf};
+ghost use Rattle.entries.specs.Entries.{functionTold};
+ghost use Rattle.entries.specs.Section.{firstOf, offsetOf, openedAt, functionAt};
+ghost use Rattle.iterate.specs.Iterate.{answer, end, cursor, endCursor, nextOf, nextIn, nextOn, nextTold};
+ghost use Rattle.iterate.specs.Range.{rangeOf, rangeIn, rangeOn, rangeTold};
+use entries::Answer;
+use entries::Function;
+use raw::Error;
+use raw::Lists;
+use raw::Opened;
+use raw::Page;
+use raw::Parsed;
+
+// A page and the index of a function in it: any two numbers.
+pub struct Cursor {
+    pub page: u32,
+    pub index: u32,
+}
+
+pub enum Next {
+    Function { function: Function, next: Cursor },
+    Refused { error: Error, next: Cursor },
+    End { next: Cursor },
+}
+
+pub struct Range {
+    pub start: u32,
+    pub end: u32,
+}
+
+pub enum Ranged {
+    Range(Range),
+    Refused(Error),
+}
+
+fn range_of(s: &[u8], lists: Lists) -> Range
+    ensures { λ r. ⌜ r ≡ rangeOf (now (s .entry)) lists ⌝ }
+{
+    let n = lists.pages_len;
+    let pages = raw::pages(s, lists);
+    if n == 0 {
+        return Range { start: 0, end: 0 };
+    }
+    Range {
+        start: raw::first_address(pages, 0),
+        end: raw::first_address(pages, n - 1),
+    }
+}
+
+// The range of addresses between the first page and the last, of lists that anyone may name.
+pub fn address_range_in(s: &[u8], lists: Lists) -> Ranged
+    ensures { λ r. ⌜ rangeTold r ≡ rangeIn (now (s .entry)) lists ⌝ }
+{
+    match raw::grant(s, lists) {
+        Parsed::Whole(granted) => Ranged::Range(range_of(s, granted)),
+        Parsed::Refused(error) => Ranged::Refused(error),
+    }
+}
+
+pub fn address_range(s: &[u8]) -> Ranged
+    ensures { λ r. ⌜ rangeTold r ≡ rangeOn (now (s .entry)) ⌝ }
+{
+    match raw::parse(s) {
+        Parsed::Whole(lists) => Ranged::Range(range_of(s, lists)),
+        Parsed::Refused(error) => Ranged::Refused(error),
+    }
+}
+
+fn answered(a: Answer, next: Cursor) -> Next
+    ensures { λ r. ⌜ nextTold r ≡ answer (functionTold a) next ⌝ }
+{
+    match a {
+        Answer::Function(function) => Next::Function { function, next },
+        Answer::Refused(error) => Next::Refused { error, next },
+    }
+}
+
+// Where a cursor stands at the end: at the last page.
+pub fn end_cursor(lists: Lists) -> Cursor
+    ensures { λ r. ⌜ r ≡ endCursor lists ⌝ }
+{
+    let pages = lists.pages_len;
+    if pages == 0 {
+        return Cursor { page: 0, index: 0 };
+    }
+    Cursor {
+        page: pages - 1,
+        index: 0,
+    }
+}
+
+// Function i of page p, which was opened as pg.
+fn function_at(s: &[u8], lists: Lists, p: u32, pg: Page, i: u32) -> Answer
+    requires { ⌜ (p + 1 < 4294967296) × (openedAt (now s) lists p ≡ good pg) ⌝ }
+    ensures { λ r. ⌜ functionTold r ≡ functionAt (now (s .entry)) lists p pg i ⌝ }
+{
+    let pages = raw::pages(s, lists);
+    let next = raw::first_address(pages, p + 1);
+    let from = raw::page_offset(pages, p) as usize;
+    entries::function_of(raw::global_opcodes(s, lists), &s[from..], pg, next, i)
+}
+
+fn next_of(s: &[u8], lists: Lists, c: Cursor) -> Next
+    ensures { λ r. ⌜ nextTold r ≡ nextOf (now (s .entry)) lists c ⌝ }
+{
+    let pages = lists.pages_len;
+    let mut p = c.page;
+    let mut i = c.index;
+    while (p as u64 + 1) < pages as u64 {
+        match entries::open_at(s, lists, p) {
+            Opened::Refused(error) => {
+                return Next::Refused {
+                    error,
+                    next: Cursor {
+                        page: p + 1,
+                        index: 0,
+                    },
+                };
+            }
+            Opened::Page(pg) => {
+                let count = pg.functions_len;
+                if i < count {
+                    let a = function_at(s, lists, p, pg, i);
+                    return answered(
+                        a,
+                        Cursor {
+                            page: p,
+                            index: i + 1,
+                        },
+                    );
+                }
+            }
+        }
+        p += 1;
+        i = 0;
+    }
+    let next = end_cursor(lists);
+    Next::End { next }
+}
+
+// What the call at a cursor answers, with the cursor for the next call; of lists that anyone may name.
+pub fn next_function_in(s: &[u8], lists: Lists, c: Cursor) -> Next
+    ensures { λ r. ⌜ nextTold r ≡ nextIn (now (s .entry)) lists c ⌝ }
+{
+    match raw::grant(s, lists) {
+        Parsed::Whole(granted) => next_of(s, granted, c),
+        Parsed::Refused(error) => Next::Refused { error, next: c },
+    }
+}
+
+pub fn next_function(s: &[u8], c: Cursor) -> Next
+    ensures { λ r. ⌜ nextTold r ≡ nextOn (now (s .entry)) c ⌝ }
+{
+    match raw::parse(s) {
+        Parsed::Whole(lists) => next_of(s, lists, c),
+        Parsed::Refused(error) => Next::Refused { error, next: c },
+    }
+}

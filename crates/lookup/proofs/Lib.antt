@@ -1,0 +1,4 @@
+pub mod Steps
+pub mod Cases
+pub mod Probes
+pub mod One

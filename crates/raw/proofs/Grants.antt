@@ -1,0 +1,88 @@
+-- The header's lists, case by case, on plain values; and what a parse grants.
+-- Assumes nothing.
+use Prim.Native.Nat.{ℕ, _*_}
+use mathlib.Core.Path.{_≡_, refl, ap, sym, _∙_}
+use mathlib.Core.List.{List}
+use mathlib.Core.Bool.{Bool, true, false}
+use native.Mathlib.Omega.{arith}
+use lib.ListN.{length}
+use Rattle.reader.specs.Reader.{grantedOf, wordAt}
+use Rattle.reader.proofs.Laws.{fits, length-part}
+use Rattle.raw.specs.declared.Lists.{Lists}
+use Rattle.raw.specs.declared.Parsed.{Parsed}
+use Rattle.raw.specs.declared.Error.{Error}
+use Rattle.raw.specs.Checked.{Checked, good, refused, _>>=_, _>>_, either, check, numberOf}
+use Rattle.raw.specs.Raw.{grantOf, headerOf, parseOf, globalsOf, pagesOf, listsTold}
+
+module _ (s : List ℕ) where
+  module _ (l : Lists) where
+    abbrev globalsGranted : Bool
+    globalsGranted = grantedOf (4 * l .«global_opcodes_len») s (l .«global_opcodes_offset»)
+
+    abbrev pagesGranted : Bool
+    pagesGranted = grantedOf (12 * l .«pages_len») s (l .«pages_offset»)
+
+    pub no-globals : globalsGranted ≡ false → refused 2 ≡ grantOf s l
+    unfolding grantOf
+    no-globals t = simp t
+
+    pub no-pages : globalsGranted ≡ true → pagesGranted ≡ false → refused 3 ≡ grantOf s l
+    unfolding grantOf
+    no-pages t u = simp (t, u)
+
+    pub both-lists : globalsGranted ≡ true → pagesGranted ≡ true → good l ≡ grantOf s l
+    unfolding grantOf
+    both-lists t u = simp (t, u)
+
+    -- lists that were granted are these, and lie in the section
+    pub granted : (m : Lists) → grantOf s l ≡ good m → (m ≡ l) × (globalsGranted ≡ true) × (pagesGranted ≡ true)
+    unfolding grantOf
+    granted m e = by-tests globalsGranted refl pagesGranted refl e
+      where
+        by-tests : (b : Bool) → globalsGranted ≡ b → (d : Bool) → pagesGranted ≡ d → (_>>_ (check 2 b) (_>>_ (check 3 d) (good l))) ≡ good m
+            → (m ≡ l) × (globalsGranted ≡ true) × (pagesGranted ≡ true)
+        by-tests true p true q r = (cc, p, q)
+        by-tests true p false q r = absurd (let z : _≡_ {A = ℕ} 0 1 = cc in omega arith)
+        by-tests false p d q r = absurd (let z : _≡_ {A = ℕ} 0 1 = cc in omega arith)
+
+    pub length-pages : pagesGranted ≡ true → length (pagesOf s l) ≡ 12 * l .«pages_len»
+    unfolding pagesOf
+    length-pages t = length-part s (l .«pages_offset») (12 * l .«pages_len») (fits (12 * l .«pages_len») s (l .«pages_offset») t)
+
+    pub length-globals : globalsGranted ≡ true → length (globalsOf s l) ≡ 4 * l .«global_opcodes_len»
+    unfolding globalsOf
+    length-globals t = length-part s (l .«global_opcodes_offset») (4 * l .«global_opcodes_len») (fits (4 * l .«global_opcodes_len») s (l .«global_opcodes_offset») t)
+
+  pub no-header : grantedOf 28 s 0 ≡ false → refused 1 ≡ parseOf s
+  unfolding parseOf
+  no-header t = simp t
+
+  pub header-read : (w : Checked Lists) (a g b n : ℕ) → grantedOf 28 s 0 ≡ true
+      → a ≡ wordAt 4 s 4 → g ≡ wordAt 4 s 8 → b ≡ wordAt 4 s 20 → n ≡ wordAt 4 s 24
+      → w ≡ grantOf s (record { «global_opcodes_offset» = a; «global_opcodes_len» = g; «pages_offset» = b; «pages_len» = n }) → w ≡ parseOf s
+  unfolding parseOf headerOf
+  header-read w a g b n t ea eg eb en e = e ∙ simp (t, sym ea, sym eg, sym eb, sym en)
+
+  -- after a parse the lists are granted
+  pub parsed : (l : Lists) → parseOf s ≡ good l → grantOf s l ≡ good l
+  unfolding parseOf
+  parsed l e = by-test (grantedOf 28 s 0) e
+    where
+      by-test : (b : Bool) → (_>>_ (check 1 b) (grantOf s (headerOf s))) ≡ good l → grantOf s l ≡ good l
+      by-test true r =
+          let same = granted (headerOf s) l r .0 in
+          rw (← same) at r
+      by-test false r = absurd (let z : _≡_ {A = ℕ} 0 1 = cc in omega arith)
+
+-- a call on lists: what it answers where they are refused, and where they are there
+module _ {B : Type 0} (otherwise : ℕ → B) (f : Lists → B) where
+  module _ (w : Parsed) (t : Checked Lists) (e : listsTold w ≡ t) where
+    pub where-whole : (m : Lists) (x : B) → w ≡ Parsed.Whole m → x ≡ f m → x ≡ either otherwise f t
+    where-whole m x q o = o ∙ ap (either otherwise f) (ap listsTold (sym q) ∙ e)
+
+    pub where-refused : (k : Error) (x : B) → w ≡ Parsed.Refused k → x ≡ otherwise (numberOf k) → x ≡ either otherwise f t
+    where-refused k x q o = o ∙ ap (either otherwise f) (ap listsTold (sym q) ∙ e)
+
+  -- after a parse, the call on its lists answers as the call on the bytes alone
+  pub as-parsed : (s : List ℕ) (l : Lists) → parseOf s ≡ good l → either otherwise f (grantOf s l) ≡ either otherwise f (parseOf s)
+  as-parsed s l e = ap (either otherwise f) (parsed s l e ∙ sym e)

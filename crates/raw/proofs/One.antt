@@ -1,0 +1,68 @@
+-- Two answers that conform to a contract are one: a refusal's number gives the refusal back.
+-- Assumes nothing.
+use Prim.Native.Nat.{ℕ}
+use mathlib.Core.Path.{_≡_, refl, ap, sym, _∙_}
+use mathlib.Core.Bool.{cond}
+use mathlib.Mathlib.Logic.Function.Defs.{LeftInverse, LeftInverse·injective}
+use lib.Dec.{eqb}
+use Rattle.raw.specs.declared.Error.{Error}
+use Rattle.raw.specs.declared.Lists.{Lists}
+use Rattle.raw.specs.declared.Page.{Page}
+use Rattle.raw.specs.declared.Parsed.{Parsed}
+use Rattle.raw.specs.declared.Opened.{Opened}
+use Rattle.raw.specs.Checked.{Checked, good, refused, numberOf}
+use Rattle.raw.specs.Raw.{listsTold, pageTold}
+
+abbrev pub errorOf : ℕ → Error
+errorOf k =
+    cond (eqb k 1) Error.Header
+    (cond (eqb k 2) Error.GlobalOpcodes
+    (cond (eqb k 3) Error.Pages
+    (cond (eqb k 4) Error.PageKind
+    (cond (eqb k 5) Error.UnexpectedSentinelPage
+    (cond (eqb k 6) Error.InvalidPageKind
+    (cond (eqb k 7) Error.RegularPage
+    (cond (eqb k 8) Error.RegularPageFunctions
+    (cond (eqb k 9) Error.CompressedPage
+    (cond (eqb k 10) Error.CompressedPageFunctions
+    (cond (eqb k 11) Error.LocalOpcodes
+    (cond (eqb k 12) Error.InvalidPageEntryFirstAddress
+    (cond (eqb k 13) Error.AddressTooLarge Error.LocalIndex))))))))))))
+
+pub error-back : LeftInverse errorOf numberOf
+error-back Error.Header = refl
+error-back Error.GlobalOpcodes = refl
+error-back Error.Pages = refl
+error-back Error.PageKind = refl
+error-back Error.UnexpectedSentinelPage = refl
+error-back Error.InvalidPageKind = refl
+error-back Error.RegularPage = refl
+error-back Error.RegularPageFunctions = refl
+error-back Error.CompressedPage = refl
+error-back Error.CompressedPageFunctions = refl
+error-back Error.LocalOpcodes = refl
+error-back Error.InvalidPageEntryFirstAddress = refl
+error-back Error.AddressTooLarge = refl
+error-back Error.LocalIndex = refl
+
+abbrev listsFor : Checked Lists → Parsed
+listsFor (good l) = Parsed.Whole l
+listsFor (refused k) = Parsed.Refused (errorOf k)
+
+lists-back : LeftInverse listsFor listsTold
+lists-back (Parsed.Whole l) = refl
+lists-back (Parsed.Refused e) = ap Parsed.Refused (error-back e)
+
+pub one-parsed : (t : Checked Lists) (x y : Parsed) → listsTold x ≡ t → listsTold y ≡ t → x ≡ y
+one-parsed t x y p q = LeftInverse·injective listsFor listsTold lists-back x y (p ∙ sym q)
+
+abbrev pageFor : Checked Page → Opened
+pageFor (good pg) = Opened.Page pg
+pageFor (refused k) = Opened.Refused (errorOf k)
+
+page-back : LeftInverse pageFor pageTold
+page-back (Opened.Page pg) = refl
+page-back (Opened.Refused e) = ap Opened.Refused (error-back e)
+
+pub one-opened : (t : Checked Page) (x y : Opened) → pageTold x ≡ t → pageTold y ≡ t → x ≡ y
+one-opened t x y p q = LeftInverse·injective pageFor pageTold page-back x y (p ∙ sym q)

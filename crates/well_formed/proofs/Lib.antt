@@ -1,0 +1,6 @@
+pub mod Cases
+pub mod Counts
+pub mod Checker
+pub mod Agree
+pub mod Answers
+pub mod Examples
