@@ -1,0 +1,4 @@
+pub mod Writing
+pub mod Pages
+pub mod Left
+pub mod One
