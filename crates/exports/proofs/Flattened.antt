@@ -4,14 +4,11 @@ use Prim.Native.Nat.{ℕ, _+_, _*_}
 use mathlib.Core.Path.{_≡_, refl, ap, sym, _∙_}
 use mathlib.Core.Bool.{Bool, cond}
 use mathlib.Core.List.{List, _∷_}
-use Rattle.reader.specs.Reader as reader
 use Rattle.permutation.specs.Permutation as permutation
 use Rattle.permutation.specs.declared.Decoded.{Decoded}
 use Rattle.permutation.specs.declared.Decoded.the-variants.{Accepted, Refused}
 use Rattle.permutation.specs.declared.Encoded.{Encoded}
-use Rattle.opcodes.specs.Registers as registers
 use Rattle.opcodes.specs.WordsX86 as x86
-use Rattle.opcodes.specs.WordsArm64 as arm
 use Rattle.opcodes.specs.declared.«x86_64».«OpcodeX86_64».{«OpcodeX86_64»}
 use Rattle.exports.specs.declared.permutations.PermutationAnswer.{PermutationAnswer}
 use Rattle.exports.specs.declared.permutations.EncodingAnswer.{EncodingAnswer}
