@@ -2,6 +2,8 @@
 //!
 //! A C `bool` is taken as a byte, so that one that is neither 0 nor 1 is seen as a difference.
 
+pub mod section;
+
 /// `refusal` of a permutation that isn't accepted.
 pub const PERMUTATION_REFUSED: u32 = 23;
 /// `refusal` of a list or count that the encoder doesn't accept.

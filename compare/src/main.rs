@@ -1,48 +1,67 @@
 //! Feeds the proved functions of `libexports.a` and the Rust crate the same inputs.
 //!
-//! `compare` counts equal and different answers, `record FILE` writes answers of the Rust for a
-//! replay, `bench` measures both.
+//! `compare` counts equal and different answers, `sections` those on sections alone, `program` the
+//! lines of the program that lists functions; `record FILE`
+//! and `record-sections FILE` write answers of the Rust for a replay, `worst FILE` writes a
+//! section with a very long listing, `bench` measures both.
 
 mod bench;
 mod encoder;
 mod ffi;
 mod header;
+mod model;
 mod oracle;
 mod permutations;
+mod program;
 mod random;
 mod reads;
 mod record;
 mod registers;
+mod sections;
 mod tally;
 mod words;
+mod worst;
 
 use std::process::ExitCode;
+use tally::Report;
 
 fn main() -> ExitCode {
     let arguments: Vec<String> = std::env::args().skip(1).collect();
     let arguments: Vec<&str> = arguments.iter().map(String::as_str).collect();
     match arguments[..] {
-        [] | ["compare"] => compare(),
+        [] | ["compare"] => compare(all),
+        ["sections"] => compare(sections::compare),
+        ["program", ref command @ ..] => compare(|report| program::compare(command, report)),
         ["record", file] => done(record::write(file)),
+        ["record-sections", file] => done(record::sections::write(file)),
+        ["worst", file] => done(worst::write(file)),
         ["bench"] => done(bench::run()),
         _ => {
-            eprintln!("usage: compare/run [compare | record FILE | bench]");
+            eprintln!(
+                "usage: compare/run [compare | sections | program COMMAND | record FILE \
+                 | record-sections FILE | worst FILE | bench]"
+            );
             ExitCode::from(2)
         }
     }
 }
 
-fn compare() -> ExitCode {
-    let mut report = tally::Report::default();
-    permutations::compare(&mut report);
-    encoder::compare(&mut report);
-    words::compare(&mut report);
-    registers::compare(&mut report);
-    reads::compare(&mut report);
-    if let Err(e) = header::compare(&mut report) {
-        return done(Err(e));
+fn compare(subjects: impl FnOnce(&mut Report) -> std::io::Result<()>) -> ExitCode {
+    let mut report = Report::default();
+    match subjects(&mut report) {
+        Ok(()) => report.end(),
+        Err(e) => done(Err(e)),
     }
-    report.end()
+}
+
+fn all(report: &mut Report) -> std::io::Result<()> {
+    permutations::compare(report);
+    encoder::compare(report);
+    words::compare(report);
+    registers::compare(report);
+    reads::compare(report);
+    header::compare(report)?;
+    sections::compare(report)
 }
 
 fn done(result: std::io::Result<()>) -> ExitCode {

@@ -1,7 +1,9 @@
 //! The Rust crate in two releases, its answers put into the C interface's shapes.
 
+mod checked_0_5_0;
 pub mod release_0_3_0;
 pub mod release_0_5_0;
+pub mod section;
 
 use crate::ffi::{Number, OpcodeArm64, OpcodeX86_64, Permutation, RegisterName};
 

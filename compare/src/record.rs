@@ -3,7 +3,10 @@
 //! A record is eight little-endian numbers of 32 bits: tag, two inputs, and the five of the
 //! answer: case, two values, and six register numbers as bytes in two numbers.
 
+mod chosen;
 mod inputs;
+pub mod sections;
+mod witness;
 
 use crate::ffi::Permutation;
 use crate::oracle::{NEWEST, RELEASES};

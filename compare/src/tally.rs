@@ -25,21 +25,24 @@ impl Tally {
         }
     }
 
-    /// Counts one answer; `input` is asked for only where the two differ.
+    /// Counts one answer and says whether it is the same; `input` is asked for only where the two
+    /// differ.
     pub fn check<A: PartialEq + Debug>(
         &mut self,
         input: impl FnOnce() -> String,
         ours: A,
         theirs: A,
-    ) {
+    ) -> bool {
         self.compared += 1;
-        if ours != theirs {
-            self.different += 1;
-            if self.first.len() < SHOWN {
-                self.first
-                    .push(format!("{}: ours {ours:?}, theirs {theirs:?}", input()));
-            }
+        if ours == theirs {
+            return true;
         }
+        self.different += 1;
+        if self.first.len() < SHOWN {
+            self.first
+                .push(format!("{}: ours {ours:?}, theirs {theirs:?}", input()));
+        }
+        false
     }
 
     fn print(&self, word: &str) {

@@ -13,5 +13,7 @@ mod reader {
 }
 
 const NAME: &str = "0.3.0";
+const CHECKS_SUMS: bool = false;
 
 include!("answers.rs");
+include!("section_answers.rs");

@@ -11,5 +11,7 @@ pub mod permutation;
 mod reader;
 
 const NAME: &str = "0.5.0";
+const CHECKS_SUMS: bool = false;
 
 include!("answers.rs");
+include!("section_answers.rs");

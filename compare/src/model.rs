@@ -1,0 +1,225 @@
+//! A second reader of sections, written from document 01 alone: straight, and in whole numbers.
+//!
+//! It tells what the Rust doesn't: probes, cursors, well-formedness, and answers from any cursor
+//! and any two lists.
+
+mod answers;
+mod bytes;
+mod page;
+mod search;
+mod well_formed;
+
+use crate::ffi::section::{
+    Cursor, FillAnswer, Lists, LookupAnswer, NextAnswer, ParseAnswer, RangeAnswer, FOUND, REFUSED,
+};
+use answers::{filled, looked_up, stepped};
+use bytes::Bytes;
+use page::Page;
+use search::search;
+
+/// One of document 01's numbers.
+pub type Refusal = u8;
+
+const HEADER: u64 = 28;
+const PAGE_ENTRY: u64 = 12;
+const OPCODE: u64 = 4;
+
+/// A section with its two lists, both granted.
+#[derive(Clone, Copy)]
+pub struct Section<'a> {
+    bytes: Bytes<'a>,
+    lists: Lists,
+}
+
+/// Start, end and opcode.
+type Function = (u32, u32, u32);
+
+impl<'a> Section<'a> {
+    pub fn parse(section: &'a [u8]) -> Result<Self, Refusal> {
+        let bytes = Bytes(section);
+        if !bytes.granted(0, HEADER) {
+            return Err(1);
+        }
+        let lists = Lists {
+            global_opcodes_offset: bytes.u32(4),
+            global_opcodes_len: bytes.u32(8),
+            pages_offset: bytes.u32(20),
+            pages_len: bytes.u32(24),
+        };
+        Self::with_lists(section, lists)
+    }
+
+    /// Any four numbers, so both lists are granted here.
+    pub fn with_lists(section: &'a [u8], lists: Lists) -> Result<Self, Refusal> {
+        let bytes = Bytes(section);
+        let list = |offset, len, width| bytes.granted(u64::from(offset), u64::from(len) * width);
+        if !list(
+            lists.global_opcodes_offset,
+            lists.global_opcodes_len,
+            OPCODE,
+        ) {
+            return Err(2);
+        }
+        if !list(lists.pages_offset, lists.pages_len, PAGE_ENTRY) {
+            return Err(3);
+        }
+        Ok(Section { bytes, lists })
+    }
+
+    pub fn lists(&self) -> Lists {
+        self.lists
+    }
+
+    pub fn pages(&self) -> u32 {
+        self.lists.pages_len
+    }
+
+    /// The number of the last page entry, which only marks the end; 0 if there are none.
+    fn last_page(&self) -> u32 {
+        self.lists.pages_len.saturating_sub(1)
+    }
+
+    fn page_entry(&self, page: u32) -> u64 {
+        u64::from(self.lists.pages_offset) + PAGE_ENTRY * u64::from(page)
+    }
+
+    pub fn first_address(&self, page: u32) -> u32 {
+        self.bytes.u32(self.page_entry(page))
+    }
+
+    /// Opens a page that isn't the last, as lookup does: without its local opcodes.
+    pub fn open(&self, page: u32) -> Result<Page<'a>, Refusal> {
+        let offset = self.bytes.u32(self.page_entry(page) + 4);
+        let addresses = (self.first_address(page), self.first_address(page + 1));
+        Page::open(self.bytes, offset.into(), addresses)
+    }
+
+    fn open_whole(&self, page: u32) -> Result<Page<'a>, Refusal> {
+        let opened = self.open(page)?;
+        opened.grant_local_opcodes()?;
+        Ok(opened)
+    }
+
+    pub fn address_range(&self) -> (u32, u32) {
+        match self.pages() {
+            0 => (0, 0),
+            pages => (self.first_address(0), self.first_address(pages - 1)),
+        }
+    }
+
+    pub fn lookup(&self, address: u32) -> LookupAnswer {
+        let (page, probes) = self.find_page(address);
+        let Some(page) = page else {
+            return looked_up(Ok(None), probes);
+        };
+        match self.open(page) {
+            Err(refusal) => looked_up(Err(refusal), probes),
+            Ok(page) => {
+                let (index, more) = page.find(address);
+                looked_up(self.function_found(&page, index).map(Some), probes + more)
+            }
+        }
+    }
+
+    /// The page to search for an address, if there is one, and the entries probed.
+    pub fn find_page(&self, address: u32) -> (Option<u32>, u16) {
+        let (page, probes) = search(self.pages(), address, |page| self.first_address(page));
+        (page.filter(|&page| page != self.last_page()), probes)
+    }
+
+    /// After the search of a page: 12; 13; for a local index 11, then 14.
+    fn function_found(&self, page: &Page, index: Option<u32>) -> Result<Function, Refusal> {
+        let index = index.ok_or(12)?;
+        let (start, end) = (page.start(index)?, page.end(index)?);
+        if page.names_local_opcode(index, self.lists.global_opcodes_len) {
+            page.grant_local_opcodes()?;
+        }
+        Ok((start, end, page.opcode(index, self.lists)?))
+    }
+
+    pub fn next(&self, (mut page, mut index): Cursor) -> NextAnswer {
+        loop {
+            if page >= self.last_page() {
+                return stepped(Ok(None), (self.last_page(), 0));
+            }
+            match self.open_whole(page) {
+                Err(refusal) => return stepped(Err(refusal), (page + 1, 0)),
+                Ok(opened) if index < opened.functions() => {
+                    let function = self.function_of(&opened, index).map(Some);
+                    return stepped(function, (page, index + 1));
+                }
+                Ok(_) => (page, index) = (page + 1, 0),
+            }
+        }
+    }
+
+    /// In a page opened whole: start 13, end 13, then 14.
+    fn function_of(&self, page: &Page, index: u32) -> Result<Function, Refusal> {
+        let (start, end) = (page.start(index)?, page.end(index)?);
+        Ok((start, end, page.opcode(index, self.lists)?))
+    }
+
+    pub fn fill(&self, mut cursor: Cursor, out: &mut [u32]) -> FillAnswer {
+        let mut functions = 0;
+        for room in out.chunks_exact_mut(3) {
+            let next = self.next(cursor);
+            cursor = (next.page, next.index);
+            if next.outcome != FOUND.into() {
+                return filled(functions, cursor, next.outcome, next.refusal);
+            }
+            room.copy_from_slice(&[next.start, next.end, next.opcode]);
+            functions += 1;
+        }
+        filled(functions, cursor, FOUND.into(), 0)
+    }
+}
+
+pub fn parse(section: &[u8]) -> ParseAnswer {
+    match Section::parse(section) {
+        Ok(parsed) => ParseAnswer {
+            refusal: 0,
+            lists: parsed.lists,
+        },
+        Err(refusal) => ParseAnswer {
+            refusal: refusal.into(),
+            lists: Lists::default(),
+        },
+    }
+}
+
+pub fn address_range(section: &Result<Section, Refusal>) -> RangeAnswer {
+    let (refusal, (start, end)) = match section {
+        Ok(section) => (0, section.address_range()),
+        Err(refusal) => (*refusal, (0, 0)),
+    };
+    RangeAnswer {
+        refusal: refusal.into(),
+        start,
+        end,
+    }
+}
+
+pub fn lookup(section: &Result<Section, Refusal>, address: u32) -> LookupAnswer {
+    match section {
+        Ok(section) => section.lookup(address),
+        Err(refusal) => looked_up(Err(*refusal), 0),
+    }
+}
+
+pub fn next(section: &Result<Section, Refusal>, cursor: Cursor) -> NextAnswer {
+    match section {
+        Ok(section) => section.next(cursor),
+        Err(refusal) => stepped(Err(*refusal), cursor),
+    }
+}
+
+pub fn fill(section: &Result<Section, Refusal>, cursor: Cursor, out: &mut [u32]) -> FillAnswer {
+    match section {
+        Ok(section) => section.fill(cursor, out),
+        Err(refusal) => filled(0, cursor, REFUSED.into(), (*refusal).into()),
+    }
+}
+
+pub fn is_well_formed(section: &Result<Section, Refusal>) -> bool {
+    section.as_ref().is_ok_and(Section::is_well_formed)
+}

@@ -1,0 +1,139 @@
+//! All questions on one section, put to both sides.
+
+mod fills;
+mod iteration;
+mod lists;
+mod lookups;
+mod sides;
+
+use super::case::Case;
+use super::outside::Outside;
+use crate::ffi::section::{self as ours, Lists};
+use crate::model::{self, Refusal, Section};
+use crate::oracle::section::{View, BUILDS};
+use crate::random::Random;
+use crate::tally::{Report, Tally};
+use sides::Sides;
+
+/// The groups of answers.
+pub struct Checks {
+    parse: Sides,
+    range: Sides,
+    lookup: Sides,
+    iteration: Sides,
+    cursors: Tally,
+    fill: Tally,
+    lists: Tally,
+    well_formed: Tally,
+    outside: Outside,
+}
+
+/// A section as the model and the Rust have read it.
+struct Opened<'a> {
+    case: &'a Case<'a>,
+    section: &'a [u8],
+    model: Result<Section<'a>, Refusal>,
+    /// What `parse` gives; made up where it refuses.
+    lists: Lists,
+    rust: [Option<Box<dyn View<'a> + 'a>>; 3],
+}
+
+impl<'a> Opened<'a> {
+    fn new(case: &'a Case<'a>) -> Self {
+        let section = case.section();
+        let model = Section::parse(section);
+        Opened {
+            case,
+            section,
+            lists: model.as_ref().map_or(Lists::default(), Section::lists),
+            model,
+            rust: BUILDS.each_ref().map(|build| (build.open)(section)),
+        }
+    }
+
+    /// The builds that parsed the section, each by its place in `BUILDS`.
+    fn views(&self) -> impl Iterator<Item = (usize, &dyn View<'a>)> {
+        (0..)
+            .zip(&self.rust)
+            .filter_map(|(build, view)| Some((build, view.as_deref()?)))
+    }
+}
+
+impl Checks {
+    pub fn new() -> Self {
+        Checks {
+            parse: Sides::new("parse"),
+            range: Sides::new("address range"),
+            lookup: Sides::new("lookup"),
+            iteration: Sides::new("iteration"),
+            cursors: Tally::new("sections, next from any cursor, model"),
+            fill: Tally::new("sections, fill, model"),
+            lists: Tally::new("sections, any two lists, model"),
+            well_formed: Tally::new("sections, well formed, model"),
+            outside: Outside::default(),
+        }
+    }
+
+    pub fn end(self, report: &mut Report) {
+        for sides in [self.parse, self.range, self.lookup, self.iteration] {
+            sides.add_to(report);
+        }
+        for tally in [self.cursors, self.fill, self.lists, self.well_formed] {
+            report.add(tally);
+        }
+        self.outside.print();
+    }
+
+    /// All questions; says whether the model finds the section well formed. Where lists are
+    /// granted that shouldn't be, nothing more is asked, since what would be read isn't there.
+    pub fn section(&mut self, case: &Case) -> bool {
+        let opened = Opened::new(case);
+        let mut random = Random::new(case.number() as u64);
+        if !self.parse(&opened) {
+            return model::is_well_formed(&opened.model);
+        }
+        self.range(&opened);
+        self.lookups(&opened, &mut random);
+        let functions = self.iteration(&opened);
+        self.cursors(&opened, &mut random);
+        self.fills(&opened, functions, &mut random);
+        self.lists(&opened, &mut random);
+        self.well_formed(&opened)
+    }
+
+    /// Says whether ours is the model's answer.
+    fn parse(&mut self, opened: &Opened) -> bool {
+        let input = || opened.case.asked("parse");
+        let answer = ours::parse(opened.section);
+        for (tally, build) in self.parse.rust.iter_mut().zip(&BUILDS) {
+            tally.check(input, answer, (build.parse)(opened.section));
+        }
+        let model = model::parse(opened.section);
+        self.parse.model.check(input, answer, model)
+    }
+
+    fn range(&mut self, opened: &Opened) {
+        let input = || opened.case.asked("address range");
+        let answer = ours::address_range(opened.section);
+        let model = model::address_range(&opened.model);
+        self.range.model.check(input, answer, model);
+        if opened.model.is_ok() {
+            let again = ours::address_range_in(opened.section, opened.lists);
+            self.range.model.check(input, again, model);
+        }
+        for (build, view) in opened.views() {
+            let range = view.address_range();
+            self.range.rust[build].check(input, (answer.start, answer.end), range);
+        }
+    }
+
+    fn well_formed(&mut self, opened: &Opened) -> bool {
+        let model = model::is_well_formed(&opened.model);
+        self.well_formed.check(
+            || opened.case.asked("well formed"),
+            ours::is_well_formed(opened.section),
+            model.into(),
+        );
+        model
+    }
+}

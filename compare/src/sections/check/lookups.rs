@@ -1,0 +1,41 @@
+//! Lookups at every boundary of a section.
+
+use super::{Checks, Opened};
+use crate::ffi::section as ours;
+use crate::model;
+use crate::oracle::section::Told;
+use crate::random::Random;
+use crate::sections::keys::Keys;
+use crate::sections::questions;
+
+impl Checks {
+    pub(super) fn lookups(&mut self, opened: &Opened, random: &mut Random) {
+        let mut keys = Keys::new(&opened.model);
+        for address in questions::addresses(&opened.model, random) {
+            self.lookup(opened, &mut keys, address);
+        }
+    }
+
+    fn lookup(&mut self, opened: &Opened, keys: &mut Keys, address: u32) {
+        let question = format_args!("lookup {address:#x}");
+        let input = || opened.case.asked(question);
+        let answer = ours::lookup(opened.section, address);
+        let model = model::lookup(&opened.model, address);
+        self.lookup.model.check(input, answer, model);
+        if opened.model.is_ok() {
+            let again = ours::lookup_in(opened.section, opened.lists, address);
+            self.lookup.model.check(input, again, model);
+        }
+        let known = (keys.rise(&opened.model, address), model.refusal.into());
+        for (build, view) in opened.views() {
+            let told = (Told::from(answer), view.lookup(address));
+            self.lookup.told(
+                &mut self.outside,
+                (opened.case, &question),
+                build,
+                known,
+                told,
+            );
+        }
+    }
+}

@@ -1,0 +1,57 @@
+//! One question's answers, beside the model's and beside each build's of the Rust.
+
+use crate::oracle::section::{Told, BUILDS};
+use crate::sections::case::Case;
+use crate::sections::outside::{Outside, Reason};
+use crate::tally::{Report, Tally};
+use std::fmt::Display;
+
+pub struct Sides {
+    name: &'static str,
+    pub model: Tally,
+    pub rust: [Tally; 3],
+}
+
+impl Sides {
+    pub fn new(name: &'static str) -> Self {
+        let tally = |side| Tally::new(format!("sections, {name}, {side}"));
+        Sides {
+            name,
+            model: tally("model"),
+            rust: BUILDS.each_ref().map(|build| tally(build.name)),
+        }
+    }
+
+    pub fn add_to(self, report: &mut Report) {
+        report.add(self.model);
+        self.rust.into_iter().for_each(|tally| report.add(tally));
+    }
+
+    /// One answer beside a build's: compared on the domain, and counted outside of it.
+    /// `refusal` is the model's, never the Rust's.
+    pub fn told(
+        &mut self,
+        outside: &mut Outside,
+        (case, question): (&Case, &dyn Display),
+        build: usize,
+        (keys_rise, refusal): (bool, u32),
+        (ours, theirs): (Told, Told),
+    ) {
+        let reason = match refusal {
+            13 if !BUILDS[build].checks_sums => Some(Reason::Refusal13),
+            _ if !keys_rise => Some(Reason::KeysDoNotRise),
+            14 if !BUILDS[build].checks_sums => Some(Reason::Refusal14),
+            _ => None,
+        };
+        if let Some(reason) = reason {
+            let group = (reason, self.name, BUILDS[build].name);
+            return outside.count(group, (case, question), (ours, theirs));
+        }
+        // The build that checks sums panics exactly where document 01 has 13 and 14.
+        let theirs = match refusal {
+            13 | 14 => theirs.with_panic_as_refusal(),
+            _ => theirs,
+        };
+        self.rust[build].check(|| case.asked(question), ours, theirs);
+    }
+}

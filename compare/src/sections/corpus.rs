@@ -1,0 +1,170 @@
+//! Real sections, with the listings and the lookups that stand beside them.
+
+use super::case::Case;
+use super::check::Checks;
+use crate::ffi::section::{self as ours, LookupAnswer, FOUND, NONE, REFUSED};
+use crate::tally::{Report, Tally};
+use std::io::{Error, ErrorKind, Result};
+use std::path::{Path, PathBuf};
+use std::process::Command;
+
+/// A real section's name and bytes.
+pub struct Real {
+    pub name: String,
+    pub bytes: Vec<u8>,
+    path: PathBuf,
+}
+
+/// The folder of sections, if there is one.
+pub fn folder() -> Option<PathBuf> {
+    let corpus = PathBuf::from(std::env::var_os("BRASSPURSE_CORPUS")?);
+    Some(corpus.join("sections")).filter(|sections| sections.is_dir())
+}
+
+/// All real sections by name; none where there is no folder.
+pub fn sections() -> Result<Vec<Real>> {
+    let Some(folder) = folder() else {
+        return Ok(Vec::new());
+    };
+    let mut paths = Vec::new();
+    for entry in std::fs::read_dir(folder)? {
+        paths.push(entry?.path());
+    }
+    paths.retain(|path| path.extension().is_some_and(|extension| extension == "bin"));
+    paths.sort();
+    paths.into_iter().map(read).collect()
+}
+
+fn read(path: PathBuf) -> Result<Real> {
+    Ok(Real {
+        name: path
+            .file_stem()
+            .unwrap_or_default()
+            .to_string_lossy()
+            .into_owned(),
+        bytes: std::fs::read(&path)?,
+        path,
+    })
+}
+
+pub fn compare(checks: &mut Checks, report: &mut Report) -> Result<()> {
+    if folder().is_none() {
+        println!("sections, real: skipped, since BRASSPURSE_CORPUS names no folder with them");
+        return Ok(());
+    }
+    let mut listings = Tally::new("sections, real, lines of listings");
+    let mut lookups = Tally::new("sections, real, lookups listed");
+    let sections = sections()?;
+    let mut not_well_formed = Vec::new();
+    for (number, real) in sections.iter().enumerate() {
+        if !checks.section(&Case::new(&real.name, number, &real.bytes)) {
+            not_well_formed.push(&real.name[..]);
+        }
+        listing(&mut listings, real)?;
+        listed_lookups(&mut lookups, real)?;
+    }
+    println!(
+        "{:<44} {:>10} sections, not well formed: {}",
+        "sections, real",
+        sections.len(),
+        not_well_formed.join(", ")
+    );
+    report.add(listings);
+    report.add(lookups);
+    Ok(())
+}
+
+/// Each line that the program of document 01 would print, without its limit on bytes.
+fn listing(tally: &mut Tally, real: &Real) -> Result<()> {
+    let text = listed(&real.path)?;
+    let mut lines = text.lines();
+    let mut check = |line: &str| {
+        let listed = lines.next().unwrap_or("nothing");
+        tally.check(|| real.name.clone(), line, listed);
+    };
+    for line in iterated(&real.bytes) {
+        check(&line);
+    }
+    check("nothing");
+    Ok(())
+}
+
+/// The iteration in the form of document 01's program.
+fn iterated(section: &[u8]) -> Vec<String> {
+    let (mut lines, mut cursor, mut functions) = (Vec::new(), (0, 0), 0);
+    loop {
+        let next = ours::next(section, cursor);
+        if next.outcome == FOUND.into() {
+            functions += 1;
+            let (start, end, opcode) = (next.start, next.end, next.opcode);
+            lines.push(format!("{start:08x} {end:08x} {opcode:08x}"));
+        } else if next.outcome == REFUSED.into() {
+            lines.push(format!("refused {}", next.refusal));
+        }
+        if next.outcome == NONE.into() || cursor == (next.page, next.index) {
+            lines.push(format!("end {functions}"));
+            return lines;
+        }
+        cursor = (next.page, next.index);
+    }
+}
+
+/// The listing beside a section, packed or not.
+fn listed(section: &Path) -> Result<String> {
+    let plain = section.with_extension("txt");
+    if plain.exists() {
+        return std::fs::read_to_string(plain);
+    }
+    let unpacked = Command::new("gzip")
+        .arg("-dc")
+        .arg(section.with_extension("txt.gz"))
+        .output()?;
+    if !unpacked.status.success() {
+        return Err(malformed(&section.with_extension("txt.gz")));
+    }
+    String::from_utf8(unpacked.stdout).map_err(|_| malformed(section))
+}
+
+/// Both calls of lookup on each line `pc start end opcode probes` or `pc none probes`.
+fn listed_lookups(tally: &mut Tally, real: &Real) -> Result<()> {
+    let path = real.path.with_extension("lookups");
+    if !path.exists() {
+        return Ok(());
+    }
+    let lists = ours::parse(&real.bytes).lists;
+    for line in std::fs::read_to_string(&path)?.lines() {
+        let (address, listed) = lookup_line(line).ok_or_else(|| malformed(&path))?;
+        let input = || format!("lookup {address:#x} of {}", real.name);
+        tally.check(input, ours::lookup(&real.bytes, address), listed);
+        let again = ours::lookup_in(&real.bytes, lists, address);
+        tally.check(input, again, listed);
+    }
+    Ok(())
+}
+
+fn lookup_line(line: &str) -> Option<(u32, LookupAnswer)> {
+    let number = |word: &str| u32::from_str_radix(word, 16).ok();
+    let words: Vec<&str> = line.split(' ').collect();
+    let (address, probes, (outcome, start, end, opcode)) = match words[..] {
+        [address, "none", probes] => (address, probes, (NONE, 0, 0, 0)),
+        [address, start, end, opcode, probes] => {
+            let found = (FOUND, number(start)?, number(end)?, number(opcode)?);
+            (address, probes, found)
+        }
+        _ => return None,
+    };
+    let answer = LookupAnswer {
+        start,
+        end,
+        opcode,
+        probes: probes.parse().ok()?,
+        outcome,
+        refusal: 0,
+    };
+    Some((number(address)?, answer))
+}
+
+fn malformed(path: &Path) -> Error {
+    let said = format!("{} can't be read", path.display());
+    Error::new(ErrorKind::InvalidData, said)
+}
