@@ -4,11 +4,11 @@ ghost use Prim.Native.Nat.{_+_, _-_, _≤_, _<_};
 ghost use lib.ListN.{length, drop};
 ghost use Rattle.raw.specs.Checked.{good};
 ghost use Rattle.raw.specs.Raw.{pageOf, pageTold};
-ghost use Rattle.entries.specs.Entries.{functionTold};
+ghost use Rattle.entries.specs.Entries.{functionIn};
 ghost use Rattle.entries.specs.Section.{firstOf, offsetOf};
 ghost use Rattle.lookup.specs.Lookup.{telling, fromPage, atPage, lookupOf, lookupIn, lookupOn, lookedTold};
-use entries::Answer;
 use entries::Function;
+use entries::Resolved;
 use raw::Error;
 use raw::Lists;
 use raw::Opened;
@@ -23,12 +23,44 @@ pub enum Found {
     Refused { error: Error, probes: u32 },
 }
 
-fn tell(a: Answer, probes: u32) -> Found
-    ensures { λ r. ⌜ lookedTold r ≡ telling probes (functionTold a) ⌝ }
+// Function i of a page's list, with the probes. It is here so that the compiler lays it into the lookup.
+fn found_at<'a>(
+    globals: &'a [u8],
+    locals: &'a [u8],
+    there: bool,
+    functions: &[u8],
+    pg: Page,
+    next: u32,
+    i: u32,
+    probes: u32,
+) -> Found
+    ensures { λ r. ⌜ lookedTold r ≡ telling probes (functionIn (now (globals .entry)) (now (locals .entry)) there (now (functions .entry)) pg next i) ⌝ }
 {
-    match a {
-        Answer::Function(function) => Found::Function { function, probes },
-        Answer::Refused(error) => Found::Refused { error, probes },
+    let kind = pg.kind;
+    let start = entries::start_in(functions, pg, i);
+    let end = entries::end_in(functions, pg, next, i);
+    if start >= 4294967296 {
+        return Found::Refused {
+            error: Error::AddressTooLarge,
+            probes,
+        };
+    }
+    if end >= 4294967296 {
+        return Found::Refused {
+            error: Error::AddressTooLarge,
+            probes,
+        };
+    }
+    match entries::opcode_in(kind, globals, locals, there, functions, i) {
+        Resolved::Opcode(opcode) => {
+            let function = Function {
+                start_address: start as u32,
+                end_address: end as u32,
+                opcode,
+            };
+            Found::Function { function, probes }
+        }
+        Resolved::Refused(error) => Found::Refused { error, probes },
     }
 }
 
@@ -62,7 +94,7 @@ fn in_page(s: &[u8], lists: Lists, pc: u32, p: u32, pg: Page, probes: u32) -> Fo
     let next = raw::first_address(pages, p + 1);
     let there = raw::has_local_opcodes(page, pg);
     let locals = entries::local_opcodes(page, pg);
-    let a = entries::function_in(
+    found_at(
         raw::global_opcodes(s, lists),
         locals,
         there,
@@ -70,8 +102,8 @@ fn in_page(s: &[u8], lists: Lists, pc: u32, p: u32, pg: Page, probes: u32) -> Fo
         pg,
         next,
         (at - 1) as u32,
-    );
-    tell(a, all)
+        all,
+    )
 }
 
 // How lookup opens a page: its local opcodes are not asked for.
@@ -124,7 +156,7 @@ pub fn lookup(s: &[u8], pc: u32) -> Found
     ensures { λ r. ⌜ lookedTold r ≡ lookupOn (now (s .entry)) pc ⌝ }
 {
     match raw::parse(s) {
-        Parsed::Whole(lists) => lookup_of(s, lists, pc),
+        Parsed::Whole(lists) => lookup_in(s, lists, pc),
         Parsed::Refused(error) => Found::Refused { error, probes: 0 },
     }
 }

@@ -14,7 +14,7 @@ use Rattle.search.specs.declared.Layout.{Layout}
 use Rattle.search.specs.declared.Spot.{Spot}
 use Rattle.search.specs.declared.Span.{Span}
 use Rattle.search.specs.declared.Going.{Going}
-use Rattle.search.specs.Search.{sizeOf, countOf, keyOf, mid, more, run, searchOf}
+use Rattle.search.specs.Search.{sizeOf, mid, more, run, searchOf}
 use Rattle.search.specs.Steps.{Took, OnWay, Below}
 use Rattle.search.proofs.Laws.{spot, more-more, run-done, run-up, run-down, starts, bits}
 
@@ -31,14 +31,7 @@ pub four-bytes : (list : List ℕ) (o : ℕ) → o + 4 ≤ length list → numbe
 unfolding numberAt
 four-bytes list o h = simp unary-clauses (simp unary-clauses at (sym (there 4 list o h)))
 
--- the entries that are counted lie in the list
-pub counted-inside : (list : List ℕ) (l : Layout) (n : ℕ) → n ≡ countOf list l → sizeOf l * n ≤ length list
-unfolding countOf
-counted-inside list Layout.Pages n e = omega arith
-counted-inside list Layout.Regular n e = omega arith
-counted-inside list Layout.Compressed n e = omega arith
-
--- fewer of them lie in it too
+-- fewer entries lie in a list too
 pub fewer-inside : (l : Layout) (hi n m : ℕ) → hi ≤ n → sizeOf l * n ≤ m → sizeOf l * hi ≤ m
 fewer-inside Layout.Pages hi n m h t = omega arith
 fewer-inside Layout.Regular hi n m h t = omega arith
@@ -135,11 +128,9 @@ module _ (key : ℕ → ℕ) (x : ℕ) where
               (run-down key x (g .lo) (g .hi) h (rw (e .1) l) ∙ ap (more 1) (run-done key x (g .lo) (mid (g .lo) (g .hi)) (omega arith))) refl (omega (arith, e .0))
           by-rest (no h) = none-left (omega arith) (g .lo) refl
 
--- the whole search: of no entries, and of some
-pub none : (list : List ℕ) (l : Layout) (x : ℕ) → countOf list l ≡ 0 → spot 0 0 ≡ searchOf list l x
-unfolding searchOf
-none list l x e = sym (ap (run (keyOf list l) x 0) e ∙ run-done (keyOf list l) x 0 0 zero-le)
+-- the whole search: of no entries, and by the list's layout
+pub none : (key : ℕ → ℕ) (x n : ℕ) → n ≡ 0 → spot 0 0 ≡ run key x 0 n
+none key x n e = sym (ap (run key x 0) e ∙ run-done key x 0 0 zero-le)
 
-pub all : (list : List ℕ) (l : Layout) (x n : ℕ) {r : Spot} → n ≡ countOf list l → r ≡ run (keyOf list l) x 0 n → r ≡ searchOf list l x
-unfolding searchOf
-all list l x n e q = q ∙ ap (run (keyOf list l) x 0) e
+pub by-layout : (list : List ℕ) (l m : Layout) (x : ℕ) {r : Spot} → l ≡ m → r ≡ searchOf list m x → r ≡ searchOf list l x
+by-layout list l m x e q = q ∙ ap (λ (k : Layout). searchOf list k x) (sym e)

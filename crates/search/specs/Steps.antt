@@ -22,6 +22,10 @@ pub record OnWay (key : ℕ → ℕ) (x n : ℕ) (g : Going) : Type 0 where
   pub least : g .hi - g .lo ≤ g .width
   pub most : g .width ≤ g .hi - g .lo + 1
 
+-- a search of n entries sets out
+abbrev pub from : ℕ → Going
+from n = record { lo = 0; hi = n; width = n; probes = 0 }
+
 -- and less than so wide
 pub record Below (key : ℕ → ℕ) (x n bound : ℕ) (g : Going) : Type 0 where
   pub on : OnWay key x n g

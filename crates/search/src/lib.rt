@@ -4,7 +4,7 @@ ghost use Prim.Native.Nat.{_+_, _*_, _^_, _≤_, _<_};
 ghost use lib.ListN.{length};
 ghost use Rattle.reader.specs.Reader.{wordAt};
 ghost use Rattle.search.specs.Search.{sizeOf, countOf, keyOf, run, searchOf};
-ghost use Rattle.search.specs.Steps.{Took, OnWay, Below};
+ghost use Rattle.search.specs.Steps.{Took, OnWay, Below, from};
 
 // Where a search ended: one past the entry found, 0 if there is none; and how many entries it probed.
 pub struct Spot {
@@ -250,24 +250,70 @@ fn last(list: &[u8], layout: Layout, n: usize, x: u32, g: Going) -> Spot
     }
 }
 
-// Index and probes are those of 01's bisection.
-pub fn search(list: &[u8], layout: Layout, x: u32) -> Spot
-    ensures { λ r. ⌜ r ≡ searchOf (now (list .entry)) layout x ⌝ }
+fn setting_out(n: usize) -> Going
+    ensures { λ r. ⌜ r ≡ from n ⌝ }
 {
-    let n = count(list, layout);
-    if n == 0 {
-        return Spot { at: 0, probes: 0 };
-    }
-    let start = Going {
+    Going {
         lo: 0,
         hi: n,
         width: n,
         probes: 0,
-    };
-    let a = by_one(list, layout, n, x, start);
-    let b = by8(list, layout, n, x, a);
-    let c = by4(list, layout, n, x, b);
-    let d = by2(list, layout, n, x, c);
-    let e = by1(list, layout, n, x, d);
-    last(list, layout, n, x, e)
+    }
+}
+
+// The search of n entries, written out for each layout: so the compiler knows it in every round, and tests it in none.
+fn search_pages(list: &[u8], n: usize, x: u32) -> Spot
+    requires { ⌜ 12 * n ≤ length (now list) ⌝ }
+    ensures { λ r. ⌜ r ≡ run (keyOf (now (list .entry)) Layout.Pages) x 0 n ⌝ }
+{
+    if n == 0 {
+        return Spot { at: 0, probes: 0 };
+    }
+    let a = by_one(list, Layout::Pages, n, x, setting_out(n));
+    let b = by8(list, Layout::Pages, n, x, a);
+    let c = by4(list, Layout::Pages, n, x, b);
+    let d = by2(list, Layout::Pages, n, x, c);
+    let e = by1(list, Layout::Pages, n, x, d);
+    last(list, Layout::Pages, n, x, e)
+}
+
+fn search_regular(list: &[u8], n: usize, x: u32) -> Spot
+    requires { ⌜ 8 * n ≤ length (now list) ⌝ }
+    ensures { λ r. ⌜ r ≡ run (keyOf (now (list .entry)) Layout.Regular) x 0 n ⌝ }
+{
+    if n == 0 {
+        return Spot { at: 0, probes: 0 };
+    }
+    let a = by_one(list, Layout::Regular, n, x, setting_out(n));
+    let b = by8(list, Layout::Regular, n, x, a);
+    let c = by4(list, Layout::Regular, n, x, b);
+    let d = by2(list, Layout::Regular, n, x, c);
+    let e = by1(list, Layout::Regular, n, x, d);
+    last(list, Layout::Regular, n, x, e)
+}
+
+fn search_compressed(list: &[u8], n: usize, x: u32) -> Spot
+    requires { ⌜ 4 * n ≤ length (now list) ⌝ }
+    ensures { λ r. ⌜ r ≡ run (keyOf (now (list .entry)) Layout.Compressed) x 0 n ⌝ }
+{
+    if n == 0 {
+        return Spot { at: 0, probes: 0 };
+    }
+    let a = by_one(list, Layout::Compressed, n, x, setting_out(n));
+    let b = by8(list, Layout::Compressed, n, x, a);
+    let c = by4(list, Layout::Compressed, n, x, b);
+    let d = by2(list, Layout::Compressed, n, x, c);
+    let e = by1(list, Layout::Compressed, n, x, d);
+    last(list, Layout::Compressed, n, x, e)
+}
+
+// Index and probes are those of 01's bisection.
+pub fn search(list: &[u8], layout: Layout, x: u32) -> Spot
+    ensures { λ r. ⌜ r ≡ searchOf (now (list .entry)) layout x ⌝ }
+{
+    match layout {
+        Layout::Pages => search_pages(list, list.len() / 12, x),
+        Layout::Regular => search_regular(list, list.len() / 8, x),
+        Layout::Compressed => search_compressed(list, list.len() / 4, x),
+    }
 }

@@ -1,15 +1,16 @@
--- `lookup::lookup` meets its contract: as the header's lists are granted or refused.
+-- `lookup::lookup` meets its contract: the lookup on the header's lists, or what refuses them.
 -- Assumes nothing.
 use borrow.Author.Needs.{needs}
-use mathlib.Core.Path.{refl}
-use Rattle.raw.proofs.Grants.{where-whole, where-refused}
+use mathlib.Core.Path.{refl, ap, sym, _∙_}
+use Rattle.raw.specs.Raw.{listsTold}
+use Rattle.raw.proofs.Grants.{where-refused}
 use Rattle.lookup.specs.Lookup.{lookupOn}
+use Rattle.lookup.proofs.One.{after-parse}
 use Rattle.lookup.proofs.lookup.Statement.{statement}
 use Rattle.lookup.proofs.lookup.Tie as tie
 
 returns : tie.Need-returns
-unfolding lookupOn
-returns c = where-whole _ _ _ _ (c .before .before .before .before .parse .ensures) _ _ (c .before .before .lists .given .1) (c .lookup-of .ensures)
+returns c = c .lookup-in .ensures ∙ after-parse _ _ (sym (c .before .before .before .before .parse .ensures) ∙ ap listsTold (c .before .before .lists .given .1)) _
 
 returns-2 : tie.Need-returns-2
 unfolding lookupOn
