@@ -8,7 +8,7 @@ use Rattle.raw.specs.Checked.{Checked, good, refused}
 use Rattle.raw.specs.declared.Lists.{Lists}
 use Rattle.raw.specs.Raw.{parseOf}
 use Rattle.raw.proofs.Grants.{as-parsed}
-use Rattle.raw.proofs.One.{errorOf, error-back}
+use Rattle.raw.proofs.One.{answerFor, errorOf, error-back, one-told}
 use Rattle.iterate.specs.declared.Cursor.{Cursor}
 use Rattle.iterate.specs.declared.Next.{Next}
 use Rattle.iterate.specs.declared.Range.{Range}
@@ -29,16 +29,12 @@ next-back (Next.End c) = refl
 pub one-next : (t : Step) (x y : Next) → nextTold x ≡ t → nextTold y ≡ t → x ≡ y
 one-next t x y p q = LeftInverse·injective nextFor nextTold next-back x y (p ∙ sym q)
 
-abbrev rangeFor : Checked Range → Ranged
-rangeFor (good r) = Ranged.Range r
-rangeFor (refused k) = Ranged.Refused (errorOf k)
-
-range-back : LeftInverse rangeFor rangeTold
+range-back : LeftInverse (answerFor Ranged.Range Ranged.Refused) rangeTold
 range-back (Ranged.Range r) = refl
 range-back (Ranged.Refused e) = ap Ranged.Refused (error-back e)
 
 pub one-range : (t : Checked Range) (x y : Ranged) → rangeTold x ≡ t → rangeTold y ≡ t → x ≡ y
-one-range t x y p q = LeftInverse·injective rangeFor rangeTold range-back x y (p ∙ sym q)
+one-range = one-told Ranged.Range Ranged.Refused rangeTold range-back
 
 module _ (s : List ℕ) (l : Lists) (e : parseOf s ≡ good l) where
   pub next-after-parse : (c : Cursor) → nextIn s l c ≡ nextOn s c

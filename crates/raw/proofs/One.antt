@@ -10,7 +10,7 @@ use Rattle.raw.specs.declared.Lists.{Lists}
 use Rattle.raw.specs.declared.Page.{Page}
 use Rattle.raw.specs.declared.Parsed.{Parsed}
 use Rattle.raw.specs.declared.Opened.{Opened}
-use Rattle.raw.specs.Checked.{Checked, good, refused, numberOf}
+use Rattle.raw.specs.Checked.{Checked, either, numberOf}
 use Rattle.raw.specs.Raw.{listsTold, pageTold}
 
 abbrev pub errorOf : ℕ → Error
@@ -45,24 +45,23 @@ error-back Error.InvalidPageEntryFirstAddress = refl
 error-back Error.AddressTooLarge = refl
 error-back Error.LocalIndex = refl
 
-abbrev listsFor : Checked Lists → Parsed
-listsFor (good l) = Parsed.Whole l
-listsFor (refused k) = Parsed.Refused (errorOf k)
+-- the answer that an enum of two cases gives for what was told
+abbrev pub answerFor : {A B : Type 0} → (A → B) → (Error → B) → Checked A → B
+answerFor whole refusal = either (λ k. refusal (errorOf k)) whole
 
-lists-back : LeftInverse listsFor listsTold
+pub one-told : {A B : Type 0} (whole : A → B) (refusal : Error → B) (told : B → Checked A) → LeftInverse (answerFor whole refusal) told → (t : Checked A) (x y : B) → told x ≡ t → told y ≡ t → x ≡ y
+one-told whole refusal told back t x y p q = LeftInverse·injective (answerFor whole refusal) told back x y (p ∙ sym q)
+
+lists-back : LeftInverse (answerFor Parsed.Whole Parsed.Refused) listsTold
 lists-back (Parsed.Whole l) = refl
 lists-back (Parsed.Refused e) = ap Parsed.Refused (error-back e)
 
 pub one-parsed : (t : Checked Lists) (x y : Parsed) → listsTold x ≡ t → listsTold y ≡ t → x ≡ y
-one-parsed t x y p q = LeftInverse·injective listsFor listsTold lists-back x y (p ∙ sym q)
+one-parsed = one-told Parsed.Whole Parsed.Refused listsTold lists-back
 
-abbrev pageFor : Checked Page → Opened
-pageFor (good pg) = Opened.Page pg
-pageFor (refused k) = Opened.Refused (errorOf k)
-
-page-back : LeftInverse pageFor pageTold
+page-back : LeftInverse (answerFor Opened.Page Opened.Refused) pageTold
 page-back (Opened.Page pg) = refl
 page-back (Opened.Refused e) = ap Opened.Refused (error-back e)
 
 pub one-opened : (t : Checked Page) (x y : Opened) → pageTold x ≡ t → pageTold y ≡ t → x ≡ y
-one-opened t x y p q = LeftInverse·injective pageFor pageTold page-back x y (p ∙ sym q)
+one-opened = one-told Opened.Page Opened.Refused pageTold page-back
