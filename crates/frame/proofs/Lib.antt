@@ -1,0 +1,7 @@
+pub mod Slots
+pub mod Stores
+pub mod Distances
+pub mod Undo
+pub mod Pushed
+pub mod Fielded
+pub mod Lowered
