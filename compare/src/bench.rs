@@ -3,6 +3,7 @@
 //! Ours is always a call into the library. The Rust is measured twice: behind a call that is never
 //! inlined, and free to be inlined into the loop, as the compiler sees fit.
 
+mod frames;
 mod inputs;
 mod sections;
 
@@ -30,6 +31,7 @@ pub fn run() -> Result<()> {
     x86_64("x86_64, frame-based", &inputs::words_of_kind(1));
     arm64("arm64, mixed kinds", &inputs::mixed_words());
     arm64("arm64, frame-based", &inputs::words_of_kind(4));
+    frames::measure_all()?;
     sections::measure_all()
 }
 

@@ -2,6 +2,7 @@
 //!
 //! A C `bool` is taken as a byte, so that one that is neither 0 nor 1 is seen as a difference.
 
+pub mod frame;
 pub mod section;
 
 /// `refusal` of a permutation that isn't accepted.

@@ -1,13 +1,14 @@
 //! Feeds the proved functions of `libexports.a` and the Rust crate the same inputs.
 //!
-//! `compare` counts equal and different answers, `sections` those on sections alone, `program` the
-//! lines of the program that lists functions; `record FILE`
-//! and `record-sections FILE` write answers of the Rust for a replay, `worst FILE` writes a
-//! section with a very long listing, `bench` measures both.
+//! `compare` counts equal and different answers, `sections` those on sections alone, `frames` those
+//! on frames alone, `program` the lines of the program that lists functions; `record FILE` and
+//! `record-sections FILE` write answers of the Rust for a replay, `record-frames FILE` those of a
+//! processor; `worst FILE` writes a section with a very long listing, `bench` measures both.
 
 mod bench;
 mod encoder;
 mod ffi;
+mod frames;
 mod header;
 mod model;
 mod oracle;
@@ -31,15 +32,17 @@ fn main() -> ExitCode {
     match arguments[..] {
         [] | ["compare"] => compare(all),
         ["sections"] => compare(sections::compare),
+        ["frames"] => compare(frames::compare),
         ["program", ref command @ ..] => compare(|report| program::compare(command, report)),
         ["record", file] => done(record::write(file)),
         ["record-sections", file] => done(record::sections::write(file)),
+        ["record-frames", file] => done(record::frames::write(file)),
         ["worst", file] => done(worst::write(file)),
         ["bench"] => done(bench::run()),
         _ => {
             eprintln!(
-                "usage: compare/run [compare | sections | program COMMAND | record FILE \
-                 | record-sections FILE | worst FILE | bench]"
+                "usage: compare/run [compare | sections | frames | program COMMAND | record FILE \
+                 | record-sections FILE | record-frames FILE | worst FILE | bench]"
             );
             ExitCode::from(2)
         }
@@ -61,6 +64,7 @@ fn all(report: &mut Report) -> std::io::Result<()> {
     registers::compare(report);
     reads::compare(report);
     header::compare(report)?;
+    frames::compare(report)?;
     sections::compare(report)
 }
 

@@ -5,6 +5,7 @@
 
 mod answers;
 mod bytes;
+pub mod frame;
 mod page;
 mod search;
 mod well_formed;

@@ -20,6 +20,10 @@ impl Random {
         (self.0 >> 32) as u32
     }
 
+    pub fn long(&mut self) -> u64 {
+        u64::from(self.next()) << 32 | u64::from(self.next())
+    }
+
     /// A number below `bound`.
     pub fn below(&mut self, bound: u32) -> u32 {
         ((self.next() as u64 * bound as u64) >> 32) as u32

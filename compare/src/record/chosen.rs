@@ -95,7 +95,7 @@ fn asked(name: &str, section: Vec<u8>, (lookups, steps): (usize, usize)) -> Chos
 }
 
 /// At most `count` of the items, the first and the last among them.
-fn spread<T: Copy>(items: &[T], count: usize) -> Vec<T> {
+pub fn spread<T: Copy>(items: &[T], count: usize) -> Vec<T> {
     if items.len() <= count {
         return items.to_vec();
     }

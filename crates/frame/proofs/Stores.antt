@@ -55,4 +55,3 @@ module _ (w base cfa : ℕ) (kept : List ℕ) where
             ∙ part-store-same w (cfa - s .below - base) (getD kept (s .reg) 0) l (omega (arith, a .0 .low, a .0 .high)),
         stores-saved n ss l′ (omega arith) (a .1) (p .1),
       )
-

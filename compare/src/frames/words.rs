@@ -1,0 +1,19 @@
+//! Words with a sound frame, and words that lack little of one.
+
+use super::machine::Machine;
+use crate::random::Random;
+use crate::words::of_kind;
+
+/// Five in eight sound, one in eight a few bits off, one of any kind that has a name.
+pub fn any<const N: usize>(machine: &Machine<N>, random: &mut Random) -> u32 {
+    match random.below(8) {
+        0 => random.next(),
+        1 => of_kind(random.next(), random.below(6)),
+        2 => sound(machine, random) ^ 1 << random.below(28) ^ 1 << random.below(28),
+        _ => sound(machine, random),
+    }
+}
+
+fn sound<const N: usize>(machine: &Machine<N>, random: &mut Random) -> u32 {
+    (machine.prologue)(random, machine.largest).word(random.next())
+}

@@ -1,0 +1,4 @@
+pub mod Answers
+pub mod Slots
+pub mod RulesX86
+pub mod RulesArm64
