@@ -18,7 +18,7 @@ const SIZE: u32 = 31;
 pub fn measure_all() -> Result<()> {
     println!("step / parse, rule / parse: ours steps or gives the rule, the Rust decodes the word");
     measure_x86_64("frame-based", x86_64::frame_based)?;
-    measure_x86_64("frameless", x86_64::immediate)?;
+    measure_x86_64("frameless immediate", x86_64::immediate)?;
     measure_x86_64("mixed", x86_64::any)?;
     measure_arm64("frame-based", arm64::frame_based)?;
     measure_arm64("frameless", arm64::frameless)?;

@@ -5,6 +5,9 @@ use crate::ffi::frame::{Registers, Step, Window};
 use crate::model::frame::step;
 use std::fmt::{Display, Formatter, Result};
 
+/// What lies around a window in memory.
+const AROUND: [u8; 8] = [0xa5; 8];
+
 #[derive(Clone)]
 pub struct Case<const N: usize> {
     pub word: u32,
@@ -21,8 +24,13 @@ impl<const N: usize> Case<N> {
         }
     }
 
+    /// The window lies in the midst of other bytes, at any alignment.
     pub fn ours(&self, machine: &Machine<N>) -> Step<N> {
-        (machine.step)(self.word, self.registers, self.window())
+        let place = (self.word as usize + self.bytes.len()) % AROUND.len();
+        let memory = [&AROUND[..place], &self.bytes, &AROUND].concat();
+        let bytes = &memory[place..place + self.bytes.len()];
+        let base = self.base;
+        (machine.step)(self.word, self.registers, Window { base, bytes })
     }
 
     pub fn model(&self, machine: &Machine<N>) -> Step<N> {

@@ -96,9 +96,10 @@ impl Groups {
         callers: &mut Tally,
     ) {
         let input = || format!("{}: {}", frame.id, frame.case);
-        // Of groups that tell the names of registers alone.
-        let short = || format!("{}, word {:#010x}", frame.id, frame.case.word);
         let ours = frame.case.ours(machine);
+        // Of groups that tell registers by their names alone.
+        let short = || format!("{}, word {:#010x}", frame.id, frame.case.word);
+        let differing = |caller| (ours.refusal, machine.differing(&ours.registers, caller));
         self.model.check(input, ours, frame.case.model(machine));
         match frame.told {
             Told::Caller(caller) => callers.check(input, ours, returned(caller)),
@@ -107,17 +108,15 @@ impl Groups {
                 let refused = frame.case.refused(refusal, value);
                 self.refused.check(input, ours, refused)
             }
-            Told::OtherPairs(caller) => {
-                let differing = machine.differing(&ours.registers, &caller);
-                let ours = (ours.refusal, differing);
-                self.other_pairs.check(short, ours, (0, vec![]))
+            Told::OtherPairs(ref caller) => {
+                self.other_pairs
+                    .check(short, differing(caller), (0, vec![]))
             }
-            Told::Differs(caller, ref named) => {
-                let differing = machine.differing(&ours.registers, &caller);
-                let ours = (ours.refusal, differing);
+            Told::Differs(ref caller, ref named) => {
                 let named = named.iter().map(String::as_str).collect();
-                self.differing.check(input, ours.clone(), (0, named));
-                self.ignored_pairs.check(short, ours, (0, vec![]))
+                self.differing.check(input, differing(caller), (0, named));
+                self.ignored_pairs
+                    .check(short, differing(caller), (0, vec![]))
             }
         };
     }

@@ -4,7 +4,7 @@ use super::machine::Machine;
 use crate::random::Random;
 use crate::words::of_kind;
 
-/// Five in eight sound, one in eight a few bits off, one of any kind that has a name.
+/// Of eight, five are sound, one is two bits off, and one has a kind that is named or the next.
 pub fn any<const N: usize>(machine: &Machine<N>, random: &mut Random) -> u32 {
     match random.below(8) {
         0 => random.next(),

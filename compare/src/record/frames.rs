@@ -25,44 +25,35 @@ const CONTROL: u64 = 100;
 /// Bytes that the file may have.
 const ROOM: usize = 122_880;
 
+/// How many real frames of each kind are recorded, at most.
+const REAL_X86_64: [(u32, usize); 4] = [(1, 60), (2, 84), (3, 8), (4, 2)];
+const REAL_ARM64: [(u32, usize); 3] = [(2, 20), (3, 3), (4, 32)];
+
 #[derive(Default)]
 struct File {
     bytes: Vec<u8>,
-    records: usize,
     controls: usize,
 }
 
 pub fn write(file: &str) -> Result<()> {
     let frames = real::read()?.ok_or_else(|| Error::other("there are no real frames"))?;
     let mut out = File::default();
-    out.named(ON_X86_64, &X86_64, named::x86_64())?;
-    out.named(ON_ARM64, &ARM64, named::arm64())?;
-    let named = out.records;
-    out.all(ON_X86_64, &X86_64, chosen::refused(&X86_64))?;
-    out.all(ON_ARM64, &ARM64, chosen::refused(&ARM64))?;
-    let model = out.records;
-    for (kind, count) in [(1, 60), (2, 84), (3, 8), (4, 2)] {
-        let real = chosen::real(&frames.x86_64, kind, count);
-        out.all(ON_X86_64, &X86_64, real)?;
-    }
-    for (kind, count) in [(2, 20), (3, 3), (4, 32)] {
-        let real = chosen::real(&frames.arm64, kind, count);
-        out.all(ON_ARM64, &ARM64, real)?;
-    }
+    let named = out.named(ON_X86_64, &X86_64, named::x86_64())?
+        + out.named(ON_ARM64, &ARM64, named::arm64())?;
+    let drawn = out.all(ON_X86_64, &X86_64, chosen::refused(&X86_64))?
+        + out.all(ON_ARM64, &ARM64, chosen::refused(&ARM64))?;
+    let x86_64 = chosen::real(&frames.x86_64, &REAL_X86_64);
+    let arm64 = chosen::real(&frames.arm64, &REAL_ARM64);
+    let real = out.all(ON_X86_64, &X86_64, x86_64)? + out.all(ON_ARM64, &ARM64, arm64)?;
     out.numbers([END]);
-    if out.bytes.len() > ROOM {
-        let said = format!("{} bytes are too many", out.bytes.len());
-        return Err(Error::other(said));
+    let (length, controls) = (out.bytes.len(), out.controls);
+    if length > ROOM {
+        return Err(Error::other(format!("{length} bytes are too many")));
     }
     std::fs::write(file, &out.bytes)?;
     println!(
-        "{} bytes written to {file}: {} records ({named} of them named, {} the model's, {} real), \
-         {} controls",
-        out.bytes.len(),
-        out.records,
-        model - named,
-        out.records - model,
-        out.controls
+        "{length} bytes written to {file}: {named} named records, {drawn} refused ones of the \
+         model, {real} of real frames, {controls} controls"
     );
     Ok(())
 }
@@ -75,7 +66,7 @@ impl File {
         tag: u64,
         machine: &Machine<N>,
         all: Vec<named::Named<N>>,
-    ) -> Result<()> {
+    ) -> Result<usize> {
         let all: Vec<Recorded<N>> = all
             .into_iter()
             .map(|named| (named.case, named.answer))
@@ -87,21 +78,20 @@ impl File {
         self.all(tag, machine, all)
     }
 
-    /// The model must give the same answers.
+    /// The model must give the same answers. Says how many there are.
     fn all<const N: usize>(
         &mut self,
         tag: u64,
         machine: &Machine<N>,
         all: Vec<Recorded<N>>,
-    ) -> Result<()> {
-        for (case, answer) in all {
-            if case.model(machine) != answer {
+    ) -> Result<usize> {
+        for (case, answer) in &all {
+            if case.model(machine) != *answer {
                 return Err(Error::other(format!("{case}: the model says otherwise")));
             }
-            self.record(tag, &case, &flat(&answer));
-            self.records += 1;
+            self.record(tag, case, &flat(answer));
         }
-        Ok(())
+        Ok(all.len())
     }
 
     /// The record once for each number of its answer, with that number changed.

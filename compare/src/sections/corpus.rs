@@ -26,13 +26,18 @@ pub fn sections() -> Result<Vec<Real>> {
     let Some(folder) = folder() else {
         return Ok(Vec::new());
     };
+    files(&folder, "bin")?.into_iter().map(read).collect()
+}
+
+/// The files of a folder with an extension, by name.
+pub fn files(folder: &Path, extension: &str) -> Result<Vec<PathBuf>> {
     let mut paths = Vec::new();
     for entry in std::fs::read_dir(folder)? {
         paths.push(entry?.path());
     }
-    paths.retain(|path| path.extension().is_some_and(|extension| extension == "bin"));
+    paths.retain(|path| path.extension().is_some_and(|found| found == extension));
     paths.sort();
-    paths.into_iter().map(read).collect()
+    Ok(paths)
 }
 
 fn read(path: PathBuf) -> Result<Real> {
@@ -164,7 +169,7 @@ fn lookup_line(line: &str) -> Option<(u32, LookupAnswer)> {
     Some((number(address)?, answer))
 }
 
-fn malformed(path: &Path) -> Error {
+pub fn malformed(path: &Path) -> Error {
     let said = format!("{} can't be read", path.display());
     Error::new(ErrorKind::InvalidData, said)
 }

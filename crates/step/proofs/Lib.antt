@@ -4,3 +4,6 @@ pub mod Steps
 pub mod Pushing
 pub mod Fielding
 pub mod Pairing
+pub mod ListsX86
+pub mod SaysX86
+pub mod SaysArm64

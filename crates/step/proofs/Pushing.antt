@@ -4,10 +4,13 @@ use Prim.Native.Nat.{ℕ, pred, suc, _+_, _-_, _*_, _<_, _≤_}
 use mathlib.Core.Path.{_≡_, refl, ap, sym, _∙_}
 use mathlib.Core.List.{List, [], _∷_}
 use native.Mathlib.Omega.{arith}
+use borrow.Author.Tests.{le-leb, lt-leb}
 use lib.ListN.{length, getD, set, drop, replicate, length-drop}
 use lib.Seq.{drop-cons, drop-length}
-use Rattle.frame.specs.Frame.{distances, distancesOf}
+use Rattle.frame.specs.Frame.{stack, slot, distances, distancesOf}
 use Rattle.frame.specs.Pushes.{deep, pushed, Named}
+use Rattle.step.specs.Answers.{numbered}
+use Rattle.step.specs.RulesX86.{refusal, frameless}
 
 pub deep-eight : (xs : List ℕ) → deep 8 xs ≡ 8 + 8 * length xs
 deep-eight [] = refl
@@ -38,3 +41,12 @@ module _ (xs below : List ℕ) (i : ℕ) (p : Pushing xs below i) (h : i < lengt
 
 pub end : (xs below : List ℕ) → Pushing xs below (length xs) → below ≡ distancesOf 6 (pushed 8 xs)
 end xs below p = sym (p .same ∙ ap (λ (l : List ℕ). distances below (pushed 8 l)) (drop-length xs))
+
+-- whether the size has room for n registers
+module _ (size n : ℕ) (xs : List ℕ) (e : length xs ≡ n) where
+  pub small : size < 8 + 8 * n → refusal (numbered 24 0) ≡ frameless size xs
+  small h = simp (e, lt-leb (8 + 8 * n) size h)
+
+  pub roomy : (ds : List ℕ) → ds ≡ distancesOf 6 (pushed 8 xs) → 8 + 8 * n ≤ size
+      → record { refusal = numbered 0 0; anchor = stack; distance = size; return = slot 8; below = ds } ≡ frameless size xs
+  roomy ds p h = simp (e, le-leb (8 + 8 * n) size h, p)

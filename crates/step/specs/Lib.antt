@@ -2,3 +2,5 @@ pub mod Answers
 pub mod Slots
 pub mod RulesX86
 pub mod RulesArm64
+pub mod SoundX86
+pub mod SoundArm64

@@ -4,9 +4,8 @@ use Prim.Native.Nat.{ℕ, _+_, _-_}
 use mathlib.Core.List.{List}
 use mathlib.Core.Bool.{cond, _&&_}
 use lib.Dec.{leb}
-use Rattle.frame.specs.Frame as frame
 use Rattle.frame.specs.Frame.{inside}
-use Rattle.step.specs.Answers.{outcomeOf, regsOf}
+use Rattle.step.specs.Answers.{outcomeOf, Told, regsOf}
 use Rattle.step.specs.declared.CfaRegister.{CfaRegister}
 use Rattle.step.specs.declared.slots.Cfa.{Cfa}
 use Rattle.step.specs.declared.slots.Spot.{Spot}
@@ -22,6 +21,6 @@ cfaOf top base len anchor distance = cond (leb (base + len) top && leb (anchor +
 abbrev pub spotOf : ℕ → ℕ → ℕ → ℕ → ℕ → Spot
 spotOf w base len cfa d = cond (inside w base len cfa d) (Spot.At (cfa - d - base)) Spot.Outside
 
--- the landing and the registers loaded, as the frame theory tells them: 26 and 27 carry nothing
-abbrev pub landing : Landed → List ℕ → frame.Told
-landing l kept = record { number = outcomeOf (l .outcome) .number; regs = regsOf (l .pc) (l .sp) kept }
+-- the landing, and the registers loaded in place
+abbrev pub landing : Landed → List ℕ → Told
+landing l kept = record { refusal = outcomeOf (l .outcome); regs = regsOf (l .pc) (l .sp) kept }

@@ -96,7 +96,7 @@ fn edges() -> Vec<Named<6>> {
     };
     let mut empty = bare(END - 7, 0, 0);
     empty.bytes.clear();
-    let below_0 = case(0x01ff_0001, registers(1, 0x7f7), 0, &[0; 256]);
+    let below_0 = case(0x01ff_0001, registers(1, 0x7f7), 0, &[0; 257]);
     vec![
         gives("window at 0", bare(0, 0, 0), caller(8)),
         gives(
@@ -116,7 +116,6 @@ fn edges() -> Vec<Named<6>> {
             "lowest slot at 0",
             Case {
                 registers: registers(1, 0x7f8),
-                bytes: vec![0; 0x808],
                 ..below_0
             },
             Registers {
@@ -143,6 +142,7 @@ fn words() -> Vec<Named<6>> {
         word("count 6 with 720", 0x02ff_1ad0, (23, 0)),
         word("count 7", 0x02ff_1c00, (23, 0)),
         word("count 1 with 6", 0x02ff_0406, (23, 0)),
+        word("the same without room", 0x0201_0406, (23, 0)),
         word("indirect, count 1 with 6", 0x0300_0406, (23, 0)),
         word("indirect", 0x0300_0405, (25, 0)),
         word("size without room for the pushed", 0x0202_0800, (24, 0)),

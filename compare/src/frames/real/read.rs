@@ -4,8 +4,9 @@ use crate::ffi::frame::Registers;
 use crate::frames::case::Case;
 use crate::frames::json::{self, Json};
 use crate::frames::machine::{Machine, ARM64, X86_64};
-use std::io::{Error, ErrorKind, Result};
-use std::path::{Path, PathBuf};
+use crate::sections::corpus::{files, malformed};
+use std::io::Result;
+use std::path::PathBuf;
 
 pub struct Executed<const N: usize> {
     pub id: String,
@@ -45,27 +46,13 @@ pub fn read() -> Result<Option<Frames>> {
     }
     let mut frames = Frames::default();
     for folder in ["frames", "disagreements"] {
-        for path in files(&corpus.join(folder))? {
+        for path in files(&corpus.join(folder), "jsonl")? {
             for line in std::fs::read_to_string(&path)?.lines() {
                 frames.add(line).ok_or_else(|| malformed(&path))?;
             }
         }
     }
     Ok(Some(frames))
-}
-
-/// By name.
-fn files(folder: &Path) -> Result<Vec<PathBuf>> {
-    let mut paths = Vec::new();
-    for entry in std::fs::read_dir(folder)? {
-        paths.push(entry?.path());
-    }
-    paths.retain(|path| {
-        path.extension()
-            .is_some_and(|extension| extension == "jsonl")
-    });
-    paths.sort();
-    Ok(paths)
 }
 
 impl Frames {
@@ -146,9 +133,4 @@ fn names(list: &Json) -> Option<Vec<String>> {
 fn bytes(digits: &str) -> Option<Vec<u8>> {
     let byte = |at| u8::from_str_radix(digits.get(at..at + 2)?, 16).ok();
     (0..digits.len()).step_by(2).map(byte).collect()
-}
-
-fn malformed(path: &Path) -> Error {
-    let said = format!("{} can't be read", path.display());
-    Error::new(ErrorKind::InvalidData, said)
 }

@@ -54,14 +54,10 @@ impl<const N: usize> Running<N> {
         if self.stack_pointer_is_free {
             self.registers.sp = random.long();
         }
-        for (register, _) in self
-            .registers
-            .saved
-            .iter_mut()
-            .zip(self.free)
-            .filter(is_set)
-        {
-            *register = random.long();
+        for (register, free) in self.registers.saved.iter_mut().zip(self.free) {
+            if free {
+                *register = random.long();
+            }
         }
         for (byte, kept) in self.bytes.iter_mut().zip(&self.kept) {
             if !kept {
@@ -103,8 +99,4 @@ impl<const N: usize> Running<N> {
         self.registers.sp = place;
         self.stack_pointer_is_free = false;
     }
-}
-
-fn is_set<T>((_, free): &(T, bool)) -> bool {
-    *free
 }

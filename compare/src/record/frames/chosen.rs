@@ -37,18 +37,16 @@ pub fn refused<const N: usize>(machine: &Machine<N>) -> Vec<Recorded<N>> {
     by_refusal.into_values().flatten().collect()
 }
 
-/// At most so many real frames of a kind, each with another word, that document 01 covers.
-pub fn real<const N: usize>(frames: &[Executed<N>], kind: u32, count: usize) -> Vec<Recorded<N>> {
-    let of_kind = frames
-        .iter()
-        .filter(|frame| frame.case.word >> 24 & 15 == kind);
-    let by_word: BTreeMap<u32, Recorded<N>> = of_kind
-        .filter_map(recorded)
-        .filter(is_short)
-        .map(|recorded| (recorded.0.word, recorded))
-        .collect();
-    let recorded: Vec<_> = by_word.values().collect();
-    spread(&recorded, count).into_iter().cloned().collect()
+/// At most so many real frames of each kind, spread over the words that document 01 covers.
+pub fn real<const N: usize>(frames: &[Executed<N>], kinds: &[(u32, usize)]) -> Vec<Recorded<N>> {
+    let all = frames.iter().filter_map(recorded).filter(is_short);
+    let by_word: BTreeMap<u32, Recorded<N>> = all.map(|one| (one.0.word, one)).collect();
+    let of_kind = |&(kind, count): &(u32, usize)| {
+        let words = by_word.iter().filter(|(word, _)| **word >> 24 & 15 == kind);
+        let found: Vec<_> = words.map(|(_, recorded)| recorded).collect();
+        spread(&found, count)
+    };
+    kinds.iter().flat_map(of_kind).cloned().collect()
 }
 
 /// What the processor recorded, or the refusal.

@@ -62,7 +62,8 @@ impl Prologue<20> for Made {
                 running.store(cfa - 16, X29);
                 running.anchor(X29, cfa - 16);
                 let mut place = cfa - 16;
-                for (lower, _) in PAIRS.into_iter().zip(*pairs).filter(super::is_set) {
+                let listed = PAIRS.into_iter().zip(*pairs).filter(|&(_, listed)| listed);
+                for (lower, _) in listed {
                     for register in [lower, lower + 1] {
                         place -= 8;
                         running.store(place, register);

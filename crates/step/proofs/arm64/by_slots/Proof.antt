@@ -1,3 +1,5 @@
+use mathlib.Core.Path.{refl, sym, _∙_}
+use native.Mathlib.Omega.{arith}
 use borrow.Author.Needs.{needs}
 use Rattle.step.proofs.arm64.by_slots.Statement.{statement}
 use Rattle.step.proofs.arm64.by_slots.Tie as tie
@@ -19,11 +21,11 @@ slice-aggregate-step-slots-2 c = search needs
 
 -- src/arm64.rt:166:9
 step-slots-requires : tie.Need-step-slots-requires
-step-slots-requires c κs = ?
+step-slots-requires c κs = (omega arith, refl, sym (slice-aggregate-step-slots-2 c) ∙ slice-aggregate-step-slots (c .before))
 
 -- src/arm64.rt:155:1
 returns : tie.Need-returns
-returns c = ?
+returns c = c .before .step-slots .ensures
 
 pub by-slots-spec : {M : Type 1} → statement M
 by-slots-spec =

@@ -1,3 +1,9 @@
+use mathlib.Core.Path.{_≡_, ap, _∙_}
+use mathlib.Core.List.{List}
+use Prim.Native.Nat.{ℕ}
+use Rattle.frame.specs.Frame.{register, slot}
+use Rattle.step.specs.Answers.{numbered, Ruling}
+use Rattle.step.proofs.SaysArm64.{rule-said}
 use borrow.Author.Needs.{needs}
 use Rattle.step.proofs.arm64.RuleArm64.parse.Statement.{statement}
 use Rattle.step.proofs.arm64.RuleArm64.parse.Tie as tie
@@ -53,23 +59,25 @@ refuse-requires-3 c κs = search needs
 
 -- src/arm64.rt:41:5
 returns : tie.Need-returns
-returns c = ?
+returns c = c .refuse .ensures ∙ rule-said (c .before .before .before .before .args .opcode) (c .before .before .before .parse .result) _ (c .before .before .before .parse .ensures) (c .before .enum-told .given .1)
 
 -- src/arm64.rt:41:5
 returns-2 : tie.Need-returns-2
-returns-2 c = ?
+returns-2 c = rule-said (c .before .before .before .before .args .opcode) (c .before .before .before .parse .result) _ (c .before .before .before .parse .ensures) (c .before .word .given .1)
 
 -- src/arm64.rt:41:5
 returns-3 : tie.Need-returns-3
-returns-3 c = ?
+returns-3 c = c .refuse2 .ensures ∙ rule-said (c .before .before .before .before .before .args .opcode) (c .before .before .before .before .parse .result) _ (c .before .before .before .before .parse .ensures) (c .before .before .word2 .given .1)
 
 -- src/arm64.rt:41:5
 returns-4 : tie.Need-returns-4
-returns-4 c = ?
+returns-4 c =
+    ap {B = Ruling} (λ (ds : List ℕ). record { refusal = numbered 0 0; anchor = register 10; distance = 16; return = slot 8; below = ds }) (c .downwards .ensures)
+    ∙ rule-said (c .before .before .before .before .before .args .opcode) (c .before .before .before .before .parse .result) _ (c .before .before .before .before .parse .ensures) (c .before .before .word3 .given .1)
 
 -- src/arm64.rt:41:5
 returns-5 : tie.Need-returns-5
-returns-5 c = ?
+returns-5 c = c .refuse3 .ensures ∙ rule-said (c .before .before .before .before .before .args .opcode) (c .before .before .before .before .parse .result) _ (c .before .before .before .before .parse .ensures) (c .before .before .word4 .given .1)
 
 pub parse-spec : {M : Type 1} → statement M
 parse-spec =

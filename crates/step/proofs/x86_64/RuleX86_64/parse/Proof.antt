@@ -1,3 +1,5 @@
+use mathlib.Core.Path.{_∙_}
+use Rattle.step.proofs.SaysX86.{rule-said, fit-said}
 use borrow.Author.Needs.{needs}
 use Rattle.step.proofs.x86_64.RuleX86_64.parse.Statement.{statement}
 use Rattle.step.proofs.x86_64.RuleX86_64.parse.Tie as tie
@@ -26,7 +28,7 @@ enum-known-word c = search needs
 
 -- src/x86_64.rt:49:18
 frame-based-requires : tie.Need-frame-based-requires
-frame-based-requires c κs = ?
+frame-based-requires c κs = fit-said (c .before .before .before .before .before .args .opcode) (c .before .before .before .before .parse .result) _ (c .before .before .before .before .parse .ensures) (c .before .word .given .1)
 
 -- src/x86_64.rt:51:17
 enum-known-word-2 : tie.Need-enum-known-word-2
@@ -34,7 +36,7 @@ enum-known-word-2 c = search needs
 
 -- src/x86_64.rt:52:18
 frameless-requires : tie.Need-frameless-requires
-frameless-requires c κs = ?
+frameless-requires c κs = fit-said (c .before .before .before .before .before .args .opcode) (c .before .before .before .before .parse .result) _ (c .before .before .before .before .parse .ensures) (c .before .word2 .given .1)
 
 -- src/x86_64.rt:56:25
 enum-told-2 : tie.Need-enum-told-2
@@ -70,31 +72,31 @@ refuse-requires-5 c κs = search needs
 
 -- src/x86_64.rt:39:5
 returns : tie.Need-returns
-returns c = ?
+returns c = c .refuse .ensures ∙ rule-said (c .before .before .before .before .before .args .opcode) (c .before .before .before .before .parse .result) _ (c .before .before .before .before .parse .ensures) (c .before .enum-told .given .1)
 
 -- src/x86_64.rt:39:5
 returns-2 : tie.Need-returns-2
-returns-2 c = ?
+returns-2 c = c .frame-based .ensures ∙ rule-said (c .before .before .before .before .before .before .args .opcode) (c .before .before .before .before .before .parse .result) _ (c .before .before .before .before .before .parse .ensures) (c .before .before .word .given .1)
 
 -- src/x86_64.rt:39:5
 returns-3 : tie.Need-returns-3
-returns-3 c = ?
+returns-3 c = c .frameless .ensures ∙ rule-said (c .before .before .before .before .before .before .args .opcode) (c .before .before .before .before .before .parse .result) _ (c .before .before .before .before .before .parse .ensures) (c .before .before .word2 .given .1)
 
 -- src/x86_64.rt:39:5
 returns-4 : tie.Need-returns-4
-returns-4 c = ?
+returns-4 c = c .refuse2 .ensures ∙ rule-said (c .before .before .before .before .before .args .opcode) (c .before .before .before .before .parse .result) _ (c .before .before .before .before .parse .ensures) (c .before .enum-told2 .given .1)
 
 -- src/x86_64.rt:39:5
 returns-5 : tie.Need-returns-5
-returns-5 c = ?
+returns-5 c = c .refuse3 .ensures ∙ rule-said (c .before .before .before .before .before .before .args .opcode) (c .before .before .before .before .before .parse .result) _ (c .before .before .before .before .before .parse .ensures) (c .before .before .word3 .given .1)
 
 -- src/x86_64.rt:39:5
 returns-6 : tie.Need-returns-6
-returns-6 c = ?
+returns-6 c = c .refuse4 .ensures ∙ rule-said (c .before .before .before .before .before .args .opcode) (c .before .before .before .before .parse .result) _ (c .before .before .before .before .parse .ensures) (c .before .enum-told3 .given .1)
 
 -- src/x86_64.rt:39:5
 returns-7 : tie.Need-returns-7
-returns-7 c = ?
+returns-7 c = c .refuse5 .ensures ∙ rule-said (c .before .before .before .before .before .before .args .opcode) (c .before .before .before .before .before .parse .result) _ (c .before .before .before .before .before .parse .ensures) (c .before .before .word4 .given .1)
 
 pub parse-spec : {M : Type 1} → statement M
 parse-spec =
