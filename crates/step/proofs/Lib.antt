@@ -7,3 +7,4 @@ pub mod Pairing
 pub mod ListsX86
 pub mod SaysX86
 pub mod SaysArm64
+pub mod Stepping

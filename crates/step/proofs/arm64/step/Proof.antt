@@ -1,3 +1,6 @@
+use mathlib.Core.Path.{_∙_}
+use denote.Ref.{now}
+use Rattle.step.proofs.Stepping.{refused-arm64, by-slots, by-link}
 use borrow.Author.Needs.{needs}
 use Rattle.step.proofs.arm64.step.Statement.{statement}
 use Rattle.step.proofs.arm64.step.Tie as tie
@@ -20,7 +23,9 @@ enum-told-2 c = search needs
 
 -- src/arm64.rt:141:9
 returns : tie.Need-returns
-returns c = ?
+returns c =
+    let a = c .before .before .before .before .args in
+    refused-arm64 (a .opcode) (a .base) (now (a .window)) (c .before .before .parse .result) (a .registers) (c .before .before .parse .ensures) (c .enum-told2 .given .0 .0) (c .enum-told2 .given .1)
 
 -- src/arm64.rt:149:38
 enum-told-3 : tie.Need-enum-told-3
@@ -40,11 +45,17 @@ by-link-requires c κs = search needs
 
 -- src/arm64.rt:135:1
 returns-2 : tie.Need-returns-2
-returns-2 c = ?
+returns-2 c =
+    let a = c .before .before .before .before .before .before .before .before .args in
+    c .by-slots .ensures
+    ∙ by-slots (a .opcode) (a .base) (now (a .window)) (c .before .before .before .before .before .before .parse .result) (a .registers) (c .before .before .before .before .before .before .parse .ensures) (c .before .before .before .before .enum-told .given .1) (c .before .enum-told3 .given .1)
 
 -- src/arm64.rt:135:1
 returns-3 : tie.Need-returns-3
-returns-3 c = ?
+returns-3 c =
+    let a = c .before .before .before .before .before .before .before .before .args in
+    c .by-link .ensures
+    ∙ by-link (a .opcode) (a .base) (now (a .window)) (c .before .before .before .before .before .before .parse .result) (a .registers) (c .before .before .before .before .before .before .parse .ensures) (c .before .before .before .before .enum-told .given .1) (c .before .enum-told4 .given .1)
 
 pub step-spec : {M : Type 1} → statement M
 step-spec =

@@ -1,3 +1,7 @@
+use mathlib.Core.Path.{refl, sym, _∙_}
+use native.Mathlib.Omega.{arith}
+use denote.Ref.{now}
+use Rattle.step.proofs.Stepping.{refused-x86, stepped-x86}
 use borrow.Author.Needs.{needs}
 use Rattle.step.proofs.x86_64.step.Statement.{statement}
 use Rattle.step.proofs.x86_64.step.Tie as tie
@@ -20,7 +24,9 @@ enum-told-2 c = search needs
 
 -- src/x86_64.rt:143:9
 returns : tie.Need-returns
-returns c = ?
+returns c =
+    let a = c .before .before .before .before .args in
+    refused-x86 (a .opcode) (a .base) (now (a .window)) (c .before .before .parse .result) (a .registers) (c .before .before .parse .ensures) (c .enum-told2 .given .0 .0) (c .enum-told2 .given .1)
 
 -- src/x86_64.rt:151:61
 array-read-choose-anchor : tie.Need-array-read-choose-anchor
@@ -40,11 +46,14 @@ slice-aggregate-step-slots-2 c = search needs
 
 -- src/x86_64.rt:152:9
 step-slots-requires : tie.Need-step-slots-requires
-step-slots-requires c κs = ?
+step-slots-requires c κs = (omega arith, refl, sym (slice-aggregate-step-slots-2 c) ∙ slice-aggregate-step-slots (c .before))
 
 -- src/x86_64.rt:137:1
 returns-2 : tie.Need-returns-2
-returns-2 c = ?
+returns-2 c =
+    let a = c .before .before .before .before .before .before .before .before .before .before .before .args in
+    c .before .step-slots .ensures
+    ∙ stepped-x86 (a .opcode) (a .base) (now (a .window)) (c .before .before .before .before .before .before .before .before .before .parse .result) (a .registers) (c .before .before .before .before .before .before .before .before .before .parse .ensures) (c .before .before .before .before .before .before .before .enum-told .given .1) (c .before .before .before .before .choose-anchor .result) (c .before .before .before .before .choose-anchor .ensures)
 
 pub step-spec : {M : Type 1} → statement M
 step-spec =
