@@ -8,3 +8,7 @@ pub mod ListsX86
 pub mod SaysX86
 pub mod SaysArm64
 pub mod Stepping
+pub mod FieldsX86
+pub mod UndoesX86
+pub mod UndoesArm64
+pub mod One

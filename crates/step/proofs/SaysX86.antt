@@ -32,10 +32,10 @@ pub data Said (w : ℕ) : Type 0 where
   unrecognised : 4 < kindOf w → parseOf w ≡ alone (words.unrecognized (kindOf w)) → Said w
 
 module _ (w : ℕ) (x : words.Word) (p : parseOf w ≡ words.frameless x w) where
-  lists : accepts (countOf w) (bits 0 10 w) ≡ true → parseOf w ≡ record { word = x; saved = registersOf (countOf w) (bits 0 10 w) }
+  pub lists : accepts (countOf w) (bits 0 10 w) ≡ true → parseOf w ≡ record { word = x; saved = registersOf (countOf w) (bits 0 10 w) }
   lists a = p ∙ ap (listing x) (decode-accepts (countOf w) (bits 0 10 w) (below-accepted (countOf w) (bits 0 10 w) a))
 
-  lists-not : accepts (countOf w) (bits 0 10 w) ≡ false → parseOf w ≡ alone words.invalidFrameless
+  pub lists-not : accepts (countOf w) (bits 0 10 w) ≡ false → parseOf w ≡ alone words.invalidFrameless
   lists-not a = p ∙ ap (listing x) (decode-refuses (countOf w) (bits 0 10 w) a)
 
 pub said : (w : ℕ) → Said w

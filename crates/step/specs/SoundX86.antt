@@ -1,7 +1,7 @@
 -- Sound words of x86_64, their frames and their prologues, from the bits of the word: document 01, "One frame, and its prologue". Nothing
 -- here knows how a word is decoded.
 -- Assumes nothing.
-use Prim.Native.Nat.{ℕ, _+_, _*_, _<_, _≤_}
+use Prim.Native.Nat.{ℕ, zero, suc, _+_, _*_, _<_, _≤_}
 use mathlib.Core.Path.{_≡_}
 use mathlib.Core.Logic.{_⊎_}
 use mathlib.Core.List.{List, [], _∷_}
@@ -23,8 +23,13 @@ sizeOf w = 8 * bits 16 8 w
 abbrev pub fieldOf : ℕ → ℕ → ℕ
 fieldOf k w = bits (3 * k) 3 w
 
+-- n of them, from field k on
+abbrev pub fieldsFrom : ℕ → ℕ → ℕ → List ℕ
+fieldsFrom zero k w = []
+fieldsFrom (suc n) k w = fieldOf k w ∷ fieldsFrom n (suc k) w
+
 abbrev pub fieldsOf : ℕ → List ℕ
-fieldsOf w = fieldOf 0 w ∷ fieldOf 1 w ∷ fieldOf 2 w ∷ fieldOf 3 w ∷ fieldOf 4 w ∷ []
+fieldsOf w = fieldsFrom 5 0 w
 
 -- Sound: fields 0 to 5, none but 0 twice, field k not 0 only if 8k < offset.
 pub record FrameBased (w : ℕ) : Type 0 where
