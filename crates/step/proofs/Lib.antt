@@ -1,14 +1,7 @@
 pub mod Spots
 pub mod Turns
 pub mod Steps
-pub mod Pushing
-pub mod Fielding
-pub mod Pairing
-pub mod ListsX86
-pub mod SaysX86
-pub mod SaysArm64
 pub mod Stepping
-pub mod FieldsX86
 pub mod UndoesX86
 pub mod UndoesArm64
 pub mod One

@@ -9,17 +9,20 @@ use lib.Dec.{eqb}
 use lib.ListN.{getD, replicate}
 use Rattle.opcodes.specs.WordsArm64 as arm
 use Rattle.frame.specs.Frame.{Regs, stack, slot, holds, anchored, stepAt}
-use Rattle.step.specs.Answers.{Number, numbered, refusalOf, outcomeOf, Ruling, Told, plain, stepBy}
-use Rattle.step.specs.declared.Refusal.{Refusal}
-use Rattle.step.specs.declared.Outcome.{Outcome}
-use Rattle.step.specs.declared.CfaRegister.{CfaRegister}
+use Rattle.rules.specs.Answers.{Number, refusalOf, outcomeOf, Ruling}
+use Rattle.rules.specs.RulesX86 as x86
+use Rattle.rules.specs.RulesArm64 as arm64
+use Rattle.rules.specs.declared.Refusal.{Refusal}
+use Rattle.rules.specs.declared.Outcome.{Outcome}
+use Rattle.rules.specs.declared.CfaRegister.{CfaRegister}
+use Rattle.rules.specs.declared.«x86_64».«RuleX86_64».{«RuleX86_64»}
+use Rattle.rules.specs.declared.arm64.«RuleArm64».{«RuleArm64»}
+use Rattle.step.specs.Steps.{plain, stepBy}
 use Rattle.step.specs.declared.«x86_64».«RegistersX86_64».{«RegistersX86_64»}
-use Rattle.step.specs.declared.«x86_64».«RuleX86_64».{«RuleX86_64»}
 use Rattle.step.specs.declared.arm64.«RegistersArm64».{«RegistersArm64»}
-use Rattle.step.specs.declared.arm64.«RuleArm64».{«RuleArm64»}
 use Rattle.step.specs.Slots.{anchorOf}
-use Rattle.step.specs.RulesX86 as x86
-use Rattle.step.specs.RulesArm64 as arm64
+use Rattle.step.specs.StepsX86 as stepsX86
+use Rattle.step.specs.StepsArm64 as stepsArm64
 
 -- no refusal has the number 0
 refused-number : (x : Refusal) → eqb (refusalOf x .number) 0 ≡ false
@@ -46,19 +49,19 @@ module _ (w : ℕ) (u : Ruling) (base : ℕ) (mem : List ℕ) (r : Regs) (o : Ou
 
 -- x86_64: by the rule that was computed, and the anchor that it names
 module _ (word base : ℕ) (mem : List ℕ) (u : «RuleX86_64») (g : «RegistersX86_64») (e : x86.ruleTold u ≡ x86.ruleOf word) where
-  pub refused-x86 : (x : Refusal) → u .outcome ≡ Outcome.Refused x → record { refusal = outcomeOf (u .outcome); regs = x86.regsTold g } ≡ x86.stepOf word base mem (x86.regsTold g)
-  unfolding x86.stepOf
-  refused-x86 x q = refuses 8 (x86.ruleOf word) base mem (x86.regsTold g) (u .outcome) (ap (λ (v : Ruling). v .refusal) e) x q
+  pub refused-x86 : (x : Refusal) → u .outcome ≡ Outcome.Refused x → record { refusal = outcomeOf (u .outcome); regs = stepsX86.regsTold g } ≡ stepsX86.stepOf word base mem (stepsX86.regsTold g)
+  unfolding stepsX86.stepOf
+  refused-x86 x q = refuses 8 (x86.ruleOf word) base mem (stepsX86.regsTold g) (u .outcome) (ap (λ (v : Ruling). v .refusal) e) x q
 
   pub stepped-x86 : u .outcome ≡ Outcome.Answered → (anchor : ℕ) → anchor ≡ anchorOf (u .«cfa_register») (g .rsp) (getD (g .saved) 5 0)
-      → plain (stepAt 8 base mem (anchor + u .«cfa_distance») (slot 8) (u .below) (x86.regsTold g)) ≡ x86.stepOf word base mem (x86.regsTold g)
-  unfolding x86.stepOf
+      → plain (stepAt 8 base mem (anchor + u .«cfa_distance») (slot 8) (u .below) (stepsX86.regsTold g)) ≡ stepsX86.stepOf word base mem (stepsX86.regsTold g)
+  unfolding stepsX86.stepOf
   stepped-x86 q anchor a =
-      ap (λ (k : ℕ). plain (stepAt 8 base mem (k + u .«cfa_distance») (slot 8) (u .below) (x86.regsTold g))) (a ∙ in-x86 (u .«cfa_register»))
-      ∙ steps 8 (x86.ruleTold u) base mem (x86.regsTold g) (u .outcome) refl q
-      ∙ ap (λ (v : Ruling). stepBy 8 v base mem (x86.regsTold g)) e
+      ap (λ (k : ℕ). plain (stepAt 8 base mem (k + u .«cfa_distance») (slot 8) (u .below) (stepsX86.regsTold g))) (a ∙ in-x86 (u .«cfa_register»))
+      ∙ steps 8 (x86.ruleTold u) base mem (stepsX86.regsTold g) (u .outcome) refl q
+      ∙ ap (λ (v : Ruling). stepBy 8 v base mem (stepsX86.regsTold g)) e
     where
-      in-x86 : (c : CfaRegister) → anchorOf c (g .rsp) (getD (g .saved) 5 0) ≡ anchored (x86.anchorTold c) (x86.regsTold g)
+      in-x86 : (c : CfaRegister) → anchorOf c (g .rsp) (getD (g .saved) 5 0) ≡ anchored (x86.anchorTold c) (stepsX86.regsTold g)
       in-x86 CfaRegister.StackPointer = refl
       in-x86 CfaRegister.FramePointer = refl
 
@@ -75,28 +78,28 @@ unfolding arm64.ruleOf
 no-slots word e = none-named (arm.parseOf word) e
 
 module _ (word base : ℕ) (mem : List ℕ) (u : «RuleArm64») (g : «RegistersArm64») (e : arm64.ruleTold u ≡ arm64.ruleOf word) where
-  pub refused-arm64 : (x : Refusal) → u .outcome ≡ Outcome.Refused x → record { refusal = outcomeOf (u .outcome); regs = arm64.regsTold g } ≡ arm64.stepOf word base mem (arm64.regsTold g)
-  unfolding arm64.stepOf
-  refused-arm64 x q = refuses 8 (arm64.ruleOf word) base mem (arm64.regsTold g) (u .outcome) (ap (λ (v : Ruling). v .refusal) e) x q
+  pub refused-arm64 : (x : Refusal) → u .outcome ≡ Outcome.Refused x → record { refusal = outcomeOf (u .outcome); regs = stepsArm64.regsTold g } ≡ stepsArm64.stepOf word base mem (stepsArm64.regsTold g)
+  unfolding stepsArm64.stepOf
+  refused-arm64 x q = refuses 8 (arm64.ruleOf word) base mem (stepsArm64.regsTold g) (u .outcome) (ap (λ (v : Ruling). v .refusal) e) x q
 
-  ruled : u .outcome ≡ Outcome.Answered → plain (stepAt 8 base mem (anchored (arm64.anchorTold (u .«cfa_register»)) (arm64.regsTold g) + u .«cfa_distance») (arm64.returnTold (u .«cfa_register»)) (u .below) (arm64.regsTold g))
-      ≡ arm64.stepOf word base mem (arm64.regsTold g)
-  unfolding arm64.stepOf
+  ruled : u .outcome ≡ Outcome.Answered → plain (stepAt 8 base mem (anchored (arm64.anchorTold (u .«cfa_register»)) (stepsArm64.regsTold g) + u .«cfa_distance») (arm64.returnTold (u .«cfa_register»)) (u .below) (stepsArm64.regsTold g))
+      ≡ stepsArm64.stepOf word base mem (stepsArm64.regsTold g)
+  unfolding stepsArm64.stepOf
   ruled q =
-      steps 8 (arm64.ruleTold u) base mem (arm64.regsTold g) (u .outcome) refl q
-      ∙ ap (λ (v : Ruling). stepBy 8 v base mem (arm64.regsTold g)) e
+      steps 8 (arm64.ruleTold u) base mem (stepsArm64.regsTold g) (u .outcome) refl q
+      ∙ ap (λ (v : Ruling). stepBy 8 v base mem (stepsArm64.regsTold g)) e
 
   pub by-slots : u .outcome ≡ Outcome.Answered → u .«cfa_register» ≡ CfaRegister.FramePointer
-      → plain (stepAt 8 base mem (getD (g .saved) 10 0 + u .«cfa_distance») (slot 8) (u .below) (arm64.regsTold g)) ≡ arm64.stepOf word base mem (arm64.regsTold g)
+      → plain (stepAt 8 base mem (getD (g .saved) 10 0 + u .«cfa_distance») (slot 8) (u .below) (stepsArm64.regsTold g)) ≡ stepsArm64.stepOf word base mem (stepsArm64.regsTold g)
   by-slots q c =
-      ap (λ (k : CfaRegister). plain (stepAt 8 base mem (anchored (arm64.anchorTold k) (arm64.regsTold g) + u .«cfa_distance») (arm64.returnTold k) (u .below) (arm64.regsTold g))) (sym c)
+      ap (λ (k : CfaRegister). plain (stepAt 8 base mem (anchored (arm64.anchorTold k) (stepsArm64.regsTold g) + u .«cfa_distance») (arm64.returnTold k) (u .below) (stepsArm64.regsTold g))) (sym c)
       ∙ ruled q
 
   pub by-link : u .outcome ≡ Outcome.Answered → u .«cfa_register» ≡ CfaRegister.StackPointer
-      → plain (stepAt 8 base mem (g .sp + u .«cfa_distance») (holds 11) (replicate 20 0) (arm64.regsTold g)) ≡ arm64.stepOf word base mem (arm64.regsTold g)
+      → plain (stepAt 8 base mem (g .sp + u .«cfa_distance») (holds 11) (replicate 20 0) (stepsArm64.regsTold g)) ≡ stepsArm64.stepOf word base mem (stepsArm64.regsTold g)
   by-link q c =
       let a : arm64.ruleOf word .anchor ≡ stack = sym (ap (λ (v : Ruling). v .anchor) e) ∙ ap arm64.anchorTold c in
       let n : replicate 20 0 ≡ u .below = sym (ap (λ (v : Ruling). v .below) e ∙ no-slots word a) in
-      ap (λ (ds : List ℕ). plain (stepAt 8 base mem (g .sp + u .«cfa_distance») (holds 11) ds (arm64.regsTold g))) n
-      ∙ ap (λ (k : CfaRegister). plain (stepAt 8 base mem (anchored (arm64.anchorTold k) (arm64.regsTold g) + u .«cfa_distance») (arm64.returnTold k) (u .below) (arm64.regsTold g))) (sym c)
+      ap (λ (ds : List ℕ). plain (stepAt 8 base mem (g .sp + u .«cfa_distance») (holds 11) ds (stepsArm64.regsTold g))) n
+      ∙ ap (λ (k : CfaRegister). plain (stepAt 8 base mem (anchored (arm64.anchorTold k) (stepsArm64.regsTold g) + u .«cfa_distance») (arm64.returnTold k) (u .below) (stepsArm64.regsTold g))) (sym c)
       ∙ ruled q

@@ -1,6 +1,4 @@
-pub mod Answers
+pub mod Steps
+pub mod StepsX86
+pub mod StepsArm64
 pub mod Slots
-pub mod RulesX86
-pub mod RulesArm64
-pub mod SoundX86
-pub mod SoundArm64

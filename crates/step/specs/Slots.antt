@@ -5,8 +5,9 @@ use mathlib.Core.List.{List}
 use mathlib.Core.Bool.{cond, _&&_}
 use lib.Dec.{leb}
 use Rattle.frame.specs.Frame.{inside}
-use Rattle.step.specs.Answers.{outcomeOf, Told, regsOf}
-use Rattle.step.specs.declared.CfaRegister.{CfaRegister}
+use Rattle.rules.specs.Answers.{outcomeOf}
+use Rattle.rules.specs.declared.CfaRegister.{CfaRegister}
+use Rattle.step.specs.Steps.{Told, regsOf}
 use Rattle.step.specs.declared.slots.Cfa.{Cfa}
 use Rattle.step.specs.declared.slots.Spot.{Spot}
 use Rattle.step.specs.declared.slots.Landed.{Landed}

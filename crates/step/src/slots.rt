@@ -5,11 +5,11 @@ ghost use Prim.Native.Nat.{ℕ, _+_, _-_, _^_, _≤_};
 ghost use lib.ListN.{length};
 ghost use Rattle.frame.specs.Memory.{load};
 ghost use Rattle.frame.specs.Frame.{inside, allInside, restored, slot, stepAt};
-ghost use Rattle.step.specs.Answers.{regsOf, plain};
+ghost use Rattle.step.specs.Steps.{regsOf, plain};
 ghost use Rattle.step.specs.Slots.{anchorOf, cfaOf, spotOf, landing};
-use crate::CfaRegister;
-use crate::Outcome;
-use crate::Refusal;
+use rules::CfaRegister;
+use rules::Outcome;
+use rules::Refusal;
 
 // CFA, where it and the window's end are addresses.
 pub(crate) enum Cfa {

@@ -5,8 +5,9 @@ use lib.ListN.{getD, replicate}
 use denote.Ref.{now}
 use Rattle.frame.specs.Memory.{load}
 use Rattle.frame.specs.Frame.{holds}
-use Rattle.step.specs.Answers.{numbered, Told, regsOf, plain}
-use Rattle.step.specs.RulesArm64.{regsTold}
+use Rattle.rules.specs.Answers.{numbered}
+use Rattle.step.specs.Steps.{Told, regsOf, plain}
+use Rattle.step.specs.StepsArm64.{regsTold}
 use Rattle.step.proofs.Steps.{above, all-read, restored-none}
 use borrow.Author.Needs.{needs}
 use Rattle.step.proofs.arm64.by_link.Statement.{statement}

@@ -6,7 +6,7 @@ use Rattle.step.proofs.arm64.step.Statement.{statement}
 use Rattle.step.proofs.arm64.step.Tie as tie
 use Rattle.step.proofs.arm64.step.Reads as reads
 use Rattle.step.proofs.arm64.step.Lts as lts
-use Rattle.step.proofs.arm64.RuleArm64.parse.Reads as parse-reads
+use Rattle.rules.proofs.arm64.RuleArm64.parse.Reads as parse-reads
 use Rattle.step.proofs.arm64.by_link.Reads as by-link-reads
 use Rattle.step.proofs.arm64.by_slots.Reads as by-slots-reads
 

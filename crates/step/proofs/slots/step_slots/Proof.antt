@@ -6,7 +6,8 @@ use lib.ListN.{length}
 use denote.Ref.{now}
 use Rattle.frame.specs.Memory.{load}
 use Rattle.frame.specs.Frame.{slot}
-use Rattle.step.specs.Answers.{numbered, Told, regsOf, plain}
+use Rattle.rules.specs.Answers.{numbered}
+use Rattle.step.specs.Steps.{Told, regsOf, plain}
 use Rattle.step.specs.Slots.{landing}
 use Rattle.step.specs.declared.slots.Landed.{Landed}
 use Rattle.step.proofs.Spots.{found, missed, room}

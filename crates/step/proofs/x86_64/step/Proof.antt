@@ -9,7 +9,7 @@ use Rattle.step.proofs.x86_64.step.Reads as reads
 use Rattle.step.proofs.x86_64.step.Lts as lts
 use Rattle.step.proofs.slots.choose_anchor.Reads as choose-anchor-reads
 use Rattle.step.proofs.slots.step_slots.Reads as step-slots-reads
-use Rattle.step.proofs.x86_64.RuleX86_64.parse.Reads as parse-reads
+use Rattle.rules.proofs.x86_64.RuleX86_64.parse.Reads as parse-reads
 
 -- src/x86_64.rt:140:9
 parse-requires : tie.Need-parse-requires

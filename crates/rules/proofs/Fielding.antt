@@ -1,0 +1,50 @@
+-- The loop over the fields of a frame-based word: what holds at each turn.
+-- Assumes nothing.
+use Prim.Native.Nat.{ℕ, suc, _+_, _-_, _*_, _<_, _≤_}
+use mathlib.Core.Path.{_≡_, refl, ap, sym, _∙_}
+use mathlib.Core.List.{List, [], _∷_}
+use mathlib.Core.Bool.{Bool, true, false, cond, _&&_}
+use native.Mathlib.Omega.{arith}
+use borrow.Author.Tests.{lt-ltb, le-ltb, eq-eqb, ne-eqb}
+use lib.Dec.{ltb, eqb}
+use lib.ListN.{length, getD, set, drop}
+use lib.Seq.{drop-cons, drop-length}
+use Rattle.rules.specs.Answers.{numbered, Ruling}
+use Rattle.rules.specs.RulesX86.{refusal, basedFrom}
+
+-- from field k on, the distances of those before it being ds, as from the start
+abbrev pub Turn : ℕ → List ℕ → List ℕ → List ℕ → ℕ → Type 0
+Turn offset first fs ds k = basedFrom offset 0 first fs ≡ basedFrom offset k ds (drop k fs)
+
+module _ (offset : ℕ) (first fs ds : List ℕ) (k : ℕ) (t : Turn offset first fs ds k) (h : k < length fs) where
+  pub skip : getD fs k 0 ≡ 0 → Turn offset first fs ds (suc k)
+  skip e = t ∙ ap (basedFrom offset k ds) (drop-cons fs k 0 h ∙ ap (λ (f : ℕ). f ∷ drop (suc k) fs) e)
+
+  -- what a field that is not 0 is tested for, its register's place being f
+  abbrev tests : ℕ → Bool
+  tests f = ltb f 5 && ltb (8 * k) offset && eqb (getD ds f 0) 0
+
+  module _ (n : getD fs k 0 ≡ 0 → ⊥) where
+    abbrev place : ℕ
+    place = getD fs k 0 - 1
+
+    opened : basedFrom offset 0 first fs
+        ≡ cond (tests place) (basedFrom offset (suc k) (set ds place (16 + offset - 8 * k)) (drop (suc k) fs)) (refusal (numbered 24 0))
+    opened =
+        let e : getD fs k 0 ≡ suc (getD fs k 0 - 1) = omega arith in
+        t ∙ ap (basedFrom offset k ds) (drop-cons fs k 0 h ∙ ap (λ (f : ℕ). f ∷ drop (suc k) fs) e)
+
+    pub places : getD fs k 0 ≤ 5 → 8 * k < offset → getD ds place 0 ≡ 0 → Turn offset first fs (set ds place (16 + offset - 8 * k)) (suc k)
+    places a b c = opened ∙ simp (lt-ltb place 5 (omega arith), lt-ltb (8 * k) offset b, eq-eqb (getD ds place 0) 0 c)
+
+    pub far : 5 < getD fs k 0 → refusal (numbered 24 0) ≡ basedFrom offset 0 first fs
+    far a = sym (opened ∙ simp (le-ltb place 5 (omega arith)))
+
+    pub shallow : getD fs k 0 ≤ 5 → offset ≤ 8 * k → refusal (numbered 24 0) ≡ basedFrom offset 0 first fs
+    shallow a b = sym (opened ∙ simp (lt-ltb place 5 (omega arith), le-ltb (8 * k) offset b))
+
+    pub twice : getD fs k 0 ≤ 5 → 8 * k < offset → (getD ds place 0 ≡ 0 → ⊥) → refusal (numbered 24 0) ≡ basedFrom offset 0 first fs
+    twice a b c = sym (opened ∙ simp (lt-ltb place 5 (omega arith), lt-ltb (8 * k) offset b, ne-eqb (getD ds place 0) 0 c))
+
+pub end : (offset : ℕ) (first fs ds : List ℕ) → Turn offset first fs ds (length fs) → basedFrom offset (length fs) ds [] ≡ basedFrom offset 0 first fs
+end offset first fs ds t = sym (t ∙ ap (basedFrom offset (length fs) ds) (drop-length fs))

@@ -1,0 +1,10 @@
+pub mod Pushing
+pub mod Fielding
+pub mod Pairing
+pub mod ListsX86
+pub mod FieldsX86
+pub mod SaysX86
+pub mod SaysArm64
+pub mod FramesX86
+pub mod FramesArm64
+pub mod One
