@@ -1,7 +1,7 @@
 -- Rules and steps, flat.
 -- Assumes nothing.
 use Prim.Native.Nat.{ℕ}
-use mathlib.Core.Path.{_≡_, refl, ap, _∙_}
+use mathlib.Core.Path.{_≡_, refl, ap}
 use Rattle.rules.specs.Answers.{outcomeOf, Ruling}
 use Rattle.rules.specs.RulesX86 as rulesX86
 use Rattle.rules.specs.RulesArm64 as rulesArm64

@@ -1,12 +1,12 @@
 -- What is stored in a slot is loaded from it, over the width, and other slots keep what they have.
 -- Assumes nothing.
-use Prim.Native.Nat.{ℕ, zero, suc, _+_, _-_, _*_, _/_, _%_, _^_, _<_, _≤_}
+use Prim.Native.Nat.{ℕ, zero, suc, _+_, _-_, _/_, _%_, _^_, _<_, _≤_}
 use mathlib.Core.Path.{_≡_, refl, ap, sym, _∙_}
 use mathlib.Core.Logic.{inl, inr}
 use mathlib.Core.List.{List, [], _∷_, _++_, append-assoc}
 use native.Mathlib.Omega.{arith}
 use native.Mathlib.Nat.{add-zero, pow-suc, div-lt-iff-lt-mul}
-use lib.ListN.{length, take, drop, set, getD}
+use lib.ListN.{length, take, drop, set}
 use lib.Seq.{sets, length-sets, sets-eq, drop-set-lt, drop-set-add, take-set-le, drop-at, take-at, length-take-le, getD-take}
 use Rattle.reader.specs.Reader.{numberAt}
 use Rattle.reader.proofs.Laws as reading

@@ -4,7 +4,7 @@
 use Prim.Native.Nat.{ℕ, _+_, _-_}
 use mathlib.Core.List.{List, [], _∷_}
 use lib.ListN.{set}
-use Rattle.frame.specs.Frame.{Slot, Anchor, stack, register, Return, slot, holds, Frame}
+use Rattle.frame.specs.Frame.{Slot, stack, register, slot, holds, Frame}
 use Rattle.frame.specs.Calls.{Machine, stores}
 use Rattle.frame.specs.Pushes.{lower}
 

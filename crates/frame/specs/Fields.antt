@@ -3,7 +3,7 @@
 use Prim.Native.Nat.{ℕ, zero, suc, _+_, _-_}
 use mathlib.Core.List.{List, [], _∷_}
 use lib.ListN.{set}
-use Rattle.frame.specs.Frame.{Slot, Anchor, register, Return, slot, Frame}
+use Rattle.frame.specs.Frame.{Slot, register, slot, Frame}
 use Rattle.frame.specs.Calls.{Machine, stores}
 use Rattle.frame.specs.Pushes.{push}
 

@@ -4,7 +4,7 @@ use Prim.Native.Nat.{ℕ, pred, _+_, _-_, _≤_, _<_}
 use mathlib.Core.List.{List, [], _∷_}
 use lib.ListN.{getD}
 use Rattle.frame.specs.Memory.{store}
-use Rattle.frame.specs.Frame.{Slot, Anchor, stack, Return, slot, Frame}
+use Rattle.frame.specs.Frame.{Slot, stack, slot, Frame}
 use Rattle.frame.specs.Calls.{Machine}
 
 -- a push of the register at place k: the stack pointer falls by a slot, and the register is stored there

@@ -1,15 +1,15 @@
 -- The loop over the fields of a frame-based word: what holds at each turn.
 -- Assumes nothing.
 use Prim.Native.Nat.{ℕ, suc, _+_, _-_, _*_, _<_, _≤_}
-use mathlib.Core.Path.{_≡_, refl, ap, sym, _∙_}
+use mathlib.Core.Path.{_≡_, ap, sym, _∙_}
 use mathlib.Core.List.{List, [], _∷_}
-use mathlib.Core.Bool.{Bool, true, false, cond, _&&_}
+use mathlib.Core.Bool.{Bool, cond, _&&_}
 use native.Mathlib.Omega.{arith}
 use borrow.Author.Tests.{lt-ltb, le-ltb, eq-eqb, ne-eqb}
 use lib.Dec.{ltb, eqb}
 use lib.ListN.{length, getD, set, drop}
 use lib.Seq.{drop-cons, drop-length}
-use Rattle.rules.specs.Answers.{numbered, Ruling}
+use Rattle.rules.specs.Answers.{numbered}
 use Rattle.rules.specs.RulesX86.{refusal, basedFrom}
 
 -- from field k on, the distances of those before it being ds, as from the start

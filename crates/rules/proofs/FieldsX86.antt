@@ -1,7 +1,7 @@
 -- The fields of a frame-based word: the code's tests pass exactly at the sound words, and then give the frame's distances.
 -- Assumes nothing.
 use Prim.Native.Nat.{ℕ, zero, suc, pred, _+_, _-_, _*_, _<_, _≤_}
-use mathlib.Core.Path.{_≡_, refl, ap, sym, _∙_, subst}
+use mathlib.Core.Path.{_≡_, refl, ap, sym, _∙_}
 use mathlib.Core.Logic.{_⊎_, inl, inr}
 use mathlib.Core.List.{List, [], _∷_}
 use native.Mathlib.Omega.{arith}
@@ -13,7 +13,7 @@ use lib.Seq.{getD-set-same, getD-set-other}
 use Rattle.frame.specs.Frame.{register, slot, distances}
 use Rattle.frame.specs.Fields.{fieldSlots}
 use Rattle.frame.proofs.Fielded.{Fields}
-use Rattle.rules.specs.Answers.{numbered, Ruling}
+use Rattle.rules.specs.Answers.{numbered}
 use Rattle.rules.specs.RulesX86.{refusal, basedFrom}
 use Rattle.rules.specs.SoundX86.{sizeOf, fieldOf, fieldsFrom, fieldsOf, FrameBased}
 

@@ -89,8 +89,11 @@ sound-or-refused w = go (said w)
     go (says.null k p) = inr (numbered 20 0, null k)
     go (says.based k p) = ⊎-elim
         (λ t. inl (frameBased k (passes-sound w t)))
-        (λ e. inr (numbered 24 0, unsound k (λ s.
-        let z : _≡_ {A = ℕ} 0 24 = ap (λ (u : Ruling). u .refusal .number) (sym (passed (sizeOf w) 0 first (fieldsOf w) (sound-passes w s)) ∙ e) in omega arith)))
+        (λ e. inr (
+          numbered 24 0,
+          unsound k (λ s.
+              let z : _≡_ {A = ℕ} 0 24 = ap (λ (u : Ruling). u .refusal .number) (sym (passed (sizeOf w) 0 first (fieldsOf w) (sound-passes w s)) ∙ e) in omega arith),
+        ))
         (either (sizeOf w) 0 first (fieldsOf w))
     go (says.immediate k a p) = by-room (decLe (8 + 8 * countOf w) (sizeOf w))
       where
@@ -98,8 +101,11 @@ sound-or-refused w = go (said w)
         by-room (yes h) = inl (frameless (listOf w) k (accepted-lists w a) h)
         by-room (no h) = inr (numbered 24 0, small (listOf w) k (accepted-lists w a) (omega arith))
     go (says.indirect k a p) = inr (numbered 25 0, indirect (listOf w) k (accepted-lists w a))
-    go (says.invalid k a p) = inr (numbered 23 0, permutation k (λ xs l.
-        let z : _≡_ {A = Bool} true false = sym (lists-accepted w xs l .0) ∙ a in let y : _≡_ {A = ℕ} 0 1 = cc in omega arith))
+    go (says.invalid k a p) = inr (
+      numbered 23 0,
+      permutation k (λ xs l.
+          let z : _≡_ {A = Bool} true false = sym (lists-accepted w xs l .0) ∙ a in let y : _≡_ {A = ℕ} 0 1 = cc in omega arith),
+    )
     go (says.dwarf k p) = inr (numbered 21 (bits 0 24 w), dwarf k)
     go (says.unrecognised h p) = inr (numbered 22 (kindOf w), unrecognised h)
 

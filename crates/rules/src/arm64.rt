@@ -107,9 +107,5 @@ fn pair_place(p: usize) -> usize
     requires { ⌜ p < 9 ⌝ }
     ensures { λ r. ⌜ (r ≡ pairPlace p) × (r < 19) ⌝ }
 {
-    if p < 5 {
-        2 * p
-    } else {
-        2 * p + 2
-    }
+    if p < 5 { 2 * p } else { 2 * p + 2 }
 }

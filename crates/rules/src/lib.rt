@@ -1,15 +1,14 @@
 // What an opcode word says of its frame: where CFA is counted from, and how far below it each listed register lies; or a refusal.
 pub mod arm64;
 pub mod x86_64;
+
 ghost use mathlib.Core.Path.{_≡_};
 ghost use Rattle.rules.specs.Answers.{refusalOf, outcomeOf};
 
 // Why there is no rule for a word, or no step by it.
 pub enum Refusal {
     Null,
-    Dwarf {
-        eh_frame_fde: u32,
-    },
+    Dwarf { eh_frame_fde: u32 },
     UnrecognizedKind(u8),
     InvalidFrameless,
     // The word is a frame's, and no prologue could have left that frame.

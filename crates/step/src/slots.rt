@@ -109,7 +109,14 @@ pub(crate) fn all_inside(width: usize, base: u64, len: usize, cfa: u64, below: &
 }
 
 // The registers with a slot, loaded from it.
-pub(crate) fn load_all(width: usize, base: u64, window: &[u8], cfa: u64, below: &[u16], kept: &mut [u64])
+pub(crate) fn load_all(
+    width: usize,
+    base: u64,
+    window: &[u8],
+    cfa: u64,
+    below: &[u16],
+    kept: &mut [u64],
+)
     requires { ⌜ (width ≤ 8) × (length (now kept) ≡ length (now below)) × (allInside (inside width base (length (now window)) cfa) (now below) ≡ true) ⌝ }
     ensures { λ r. ⌜ now (kept .exit) ≡ restored (λ (d : ℕ). load width (cfa - d - base) (now (window .entry))) (now (below .entry)) (now (kept .entry)) ⌝ }
 {

@@ -1,4 +1,6 @@
-use Prim.Native.Nat.{ℕ, _+_, _-_, _*_, _<_, _≤_}
+-- `rules::x86_64::pushes` meets its contract: each turn places one more register, and the last lies next to the return address.
+-- Assumes nothing.
+use Prim.Native.Nat.{_+_, _-_, _*_, _<_, _≤_}
 use mathlib.Core.Path.{_≡_}
 use native.Mathlib.Omega.{arith}
 use native.Mathlib.Numerals.{add-one}
@@ -10,8 +12,6 @@ use lib.Seq.{getD-take, length-take-le}
 use Rattle.rules.proofs.Pushing.{Pushing, begin, here, next, end}
 use Rattle.rules.proofs.x86_64.pushes.Statement.{statement}
 use Rattle.rules.proofs.x86_64.pushes.Tie as tie
-use Rattle.rules.proofs.x86_64.pushes.Reads as reads
-use Rattle.rules.proofs.x86_64.pushes.Lts as lts
 
 abbrev Inv-loop : tie.InvT-loop
 Inv-loop count registers below₀ i₀ below i = (i ≤ count) × Pushing (take count registers) below i
@@ -32,55 +32,21 @@ turn c =
     let e : getD (take (a .count) (a .t2)) (l .i) 0 ≡ getD (a .t2) (l .i) 0 = getD-take (a .count) (a .t2) (l .i) 0 (c .loop-test .taken) in
     (e, rw e at (here (take (a .count) (a .t2)) (l .below) (l .i) (l .inv .1) (omega (arith, size (c .before .before)))))
 
--- src/x86_64.rt:129:5
 loop-holds : tie.Need-loop-holds Inv-loop μ-loop
 loop-holds c = (omega arith, begin (take (c .args .count) (c .args .t2)) (c .pre .1))
 
--- src/x86_64.rt:130:17
-array-read-x : tie.Need-array-read-x Inv-loop μ-loop
-array-read-x c = search needs
-
--- src/x86_64.rt:130:17
 cast-x : tie.Need-cast-x Inv-loop μ-loop
 cast-x c = record { fits = omega (arith, turn c .1 .1) }
 
--- src/x86_64.rt:131:34
-sub-below : tie.Need-sub-below Inv-loop μ-loop
-sub-below c = search needs
-
--- src/x86_64.rt:131:33
-cast-below : tie.Need-cast-below Inv-loop μ-loop
-cast-below c = search needs
-
--- src/x86_64.rt:131:28
-mul-below : tie.Need-mul-below Inv-loop μ-loop
-mul-below c = search needs
-
--- src/x86_64.rt:131:24
-add-below : tie.Need-add-below Inv-loop μ-loop
-add-below c = search needs
-
--- src/x86_64.rt:131:15
 sub-below-2 : tie.Need-sub-below-2 Inv-loop μ-loop
 sub-below-2 c = omega (arith, turn c .1 .0)
 
--- src/x86_64.rt:131:9
 mul-below-2 : tie.Need-mul-below-2 Inv-loop μ-loop
 mul-below-2 c = record { fits = omega (arith, turn c .1 .1) }
 
--- src/x86_64.rt:131:9
 array-write-below : tie.Need-array-write-below Inv-loop μ-loop
 array-write-below c = omega (arith, turn c .1 .0, turn c .1 .1)
 
--- src/x86_64.rt:132:9
-add-i : tie.Need-add-i Inv-loop μ-loop
-add-i c = search needs
-
--- src/x86_64.rt:129:5
-loop-less : tie.Need-loop-less Inv-loop μ-loop
-loop-less c = search needs
-
--- src/x86_64.rt:129:5
 loop-again : tie.Need-loop-again Inv-loop μ-loop
 loop-again c =
     let a = c .before .before .args in
@@ -89,7 +55,6 @@ loop-again c =
     let v : 8 + 8 * (a .count - l .i) ≡ 8 + 8 * (length (take (a .count) (a .t2)) - l .i) = omega (arith, n) in
     (omega arith, rw (add-one, v, ← turn c .0) (next (take (a .count) (a .t2)) (l .below) (l .i) (l .inv .1) (omega (arith, n))))
 
--- src/x86_64.rt:123:1
 returns : tie.Need-returns Inv-loop μ-loop
 returns c =
     let a = c .before .before .args in
@@ -100,20 +65,4 @@ returns c =
 pub pushes-spec : {M : Type 1} → statement M
 pushes-spec =
     tie.close
-    (tie.spec
-    Inv-loop
-    μ-loop
-    loop-holds
-    array-read-x
-    cast-x
-    sub-below
-    cast-below
-    mul-below
-    add-below
-    sub-below-2
-    mul-below-2
-    array-write-below
-    add-i
-    loop-less
-    loop-again
-    returns)
+    (tie.spec Inv-loop μ-loop loop-holds (λ c. search needs) cast-x (λ c. search needs) (λ c. search needs) (λ c. search needs) (λ c. search needs) sub-below-2 mul-below-2 array-write-below (λ c. search needs) (λ c. search needs) loop-again returns)

@@ -1,6 +1,8 @@
-use Prim.Native.Nat.{ℕ, suc, _+_, _-_, _≤_, _<_}
-use mathlib.Core.Path.{_≡_, refl, ap, sym, _∙_}
-use mathlib.Core.Bool.{true, _&&_}
+-- `step::slots::load_all` meets its contract: each turn restores one more register; all slots are inside.
+-- Assumes nothing.
+use Prim.Native.Nat.{ℕ, suc, _-_, _≤_}
+use mathlib.Core.Path.{_≡_, sym, _∙_}
+use mathlib.Core.Bool.{true}
 use mathlib.Core.Logic.{⊎-elim}
 use native.Mathlib.Omega.{arith}
 use native.Mathlib.Numerals.{add-one}
@@ -13,9 +15,6 @@ use Rattle.step.proofs.Spots.{both, low, room}
 use Rattle.step.proofs.Turns.{Going, one, begin, skip, loads, end}
 use Rattle.step.proofs.slots.load_all.Statement.{statement}
 use Rattle.step.proofs.slots.load_all.Tie as tie
-use Rattle.step.proofs.slots.load_all.Reads as reads
-use Rattle.step.proofs.slots.load_all.Lts as lts
-use Rattle.step.proofs.slots.load_slot.Reads as load-slot-reads
 
 abbrev Inv-loop : tie.InvT-loop
 Inv-loop width base window cfa below kept₀ i₀ kept i = (i ≤ length below) × Going (inside width base (length window) cfa) (λ (d : ℕ). load width (cfa - d - base) window) below kept₀ kept i
@@ -32,7 +31,6 @@ slot-inside c n =
     both (F (getD (now (a .below)) (l .i) 0)) (allInside F (drop (suc (l .i)) (now (a .below))))
     (sym (one F (now (a .below)) (l .i) (c .loop-test .taken) n) ∙ sym (l .inv .1 .same) ∙ c .before .before .before .before .before .pre .2) .0
 
--- src/slots.rt:117:5
 loop-holds : tie.Need-loop-holds Inv-loop μ-loop
 loop-holds c =
     let a = c .before .before .before .args in (
@@ -40,56 +38,27 @@ loop-holds c =
       begin (inside (a .width) (a .base) (length (now (a .window))) (a .cfa)) (λ (d : ℕ). load (a .width) (a .cfa - d - a .base) (now (a .window))) (now (a .below)) (now (a .kept)) (c .before .before .before .pre .1),
     )
 
--- src/slots.rt:118:17
-mul-d : tie.Need-mul-d Inv-loop μ-loop
-mul-d c = search needs
-
--- src/slots.rt:118:17
-shared-slice-read-d : tie.Need-shared-slice-read-d Inv-loop μ-loop
-shared-slice-read-d c = search needs
-
--- src/slots.rt:118:17
 cast-d : tie.Need-cast-d Inv-loop μ-loop
 cast-d c = record { fits = omega (arith, c .shared-slice-known3 .given (c .before .before .loop .i)) }
 
--- src/slots.rt:120:22
 sub-at : tie.Need-sub-at Inv-loop μ-loop
 sub-at c =
     let a = c .before .before .before .before .before .before .before .args in
     let d = getD (now (a .below)) (c .before .before .before .loop .i) 0 in
     omega (arith, low (a .width) (a .base) (length (now (a .window))) (a .cfa) d (slot-inside (c .before .before) (c .if1 .taken)))
 
--- src/slots.rt:120:22
 sub-at-2 : tie.Need-sub-at-2 Inv-loop μ-loop
 sub-at-2 c =
     let a = c .before .before .before .before .before .before .before .args in
     let d = getD (now (a .below)) (c .before .before .before .loop .i) 0 in
     omega (arith, low (a .width) (a .base) (length (now (a .window))) (a .cfa) d (slot-inside (c .before .before) (c .if1 .taken)))
 
--- src/slots.rt:121:23
 load-slot-requires : tie.Need-load-slot-requires Inv-loop μ-loop
 load-slot-requires c κs =
     let a = c .before .before .before .before .before .before .before .args in
     let d = getD (now (a .below)) (c .before .before .before .loop .i) 0 in
     (omega arith, room (a .width) (a .base) (length (now (a .window))) (a .cfa) d (slot-inside (c .before .before) (c .if1 .taken)))
 
--- src/slots.rt:121:13
-mul-kept : tie.Need-mul-kept Inv-loop μ-loop
-mul-kept c = search needs
-
--- src/slots.rt:121:13
-slice-write-kept : tie.Need-slice-write-kept Inv-loop μ-loop
-slice-write-kept c = search needs
-
--- src/slots.rt:123:9
-add-i : tie.Need-add-i Inv-loop μ-loop
-add-i c = search needs
-
--- src/slots.rt:117:5
-loop-less : tie.Need-loop-less Inv-loop μ-loop
-loop-less c = search needs
-
--- src/slots.rt:117:5
 loop-again : tie.Need-loop-again Inv-loop μ-loop
 loop-again c =
     let a = c .before .before .before .before .before .before .before .args in
@@ -105,11 +74,9 @@ loop-again c =
           (c .if1 .came)),
     )
 
--- src/slots.rt:112:1
 same-length : tie.Need-same-length Inv-loop μ-loop
 same-length c = c .before .loop .inv .1 .long ∙ sym (c .before .before .before .before .before .pre .1)
 
--- src/slots.rt:112:1
 returns : tie.Need-returns Inv-loop μ-loop
 returns c =
     let a = c .before .before .before .before .before .args in
@@ -120,20 +87,4 @@ returns c =
 pub load-all-spec : {M : Type 1} → statement M
 load-all-spec =
     tie.close
-    (tie.spec
-    Inv-loop
-    μ-loop
-    loop-holds
-    mul-d
-    shared-slice-read-d
-    cast-d
-    sub-at
-    sub-at-2
-    load-slot-requires
-    mul-kept
-    slice-write-kept
-    add-i
-    loop-less
-    loop-again
-    same-length
-    returns)
+    (tie.spec Inv-loop μ-loop loop-holds (λ c. search needs) (λ c. search needs) cast-d sub-at sub-at-2 load-slot-requires (λ c. search needs) (λ c. search needs) (λ c. search needs) (λ c. search needs) loop-again same-length returns)

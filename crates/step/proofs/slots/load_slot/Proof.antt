@@ -1,17 +1,15 @@
-use Prim.Native.Nat.{ℕ, suc, _+_, _-_, _*_, _^_, _<_, _≤_}
-use mathlib.Core.Path.{_≡_, refl, ap, _∙_}
+-- `step::slots::load_slot` meets its contract: each turn reads the byte below those read.
+-- Assumes nothing.
+use Prim.Native.Nat.{ℕ, suc, _+_, _-_, _^_, _<_, _≤_}
+use mathlib.Core.Path.{_≡_, ap, _∙_}
 use native.Mathlib.Omega.{arith}
 use native.Mathlib.Nat.{pow-suc, pow-le-pow-right}
 use borrow.Author.Needs.{needs}
-use lib.ListN.{getD}
 use denote.Ref.{now}
-use Rattle.reader.specs.Reader.{numberAt}
 use Rattle.frame.specs.Memory.{load}
 use Rattle.step.proofs.Turns.{load-none, load-byte}
 use Rattle.step.proofs.slots.load_slot.Statement.{statement}
 use Rattle.step.proofs.slots.load_slot.Tie as tie
-use Rattle.step.proofs.slots.load_slot.Reads as reads
-use Rattle.step.proofs.slots.load_slot.Lts as lts
 
 abbrev Inv-loop : tie.InvT-loop
 Inv-loop width window at number₀ i₀ number i = (i ≤ width) × (number ≡ load (width - i) (at + i) window) × (number < 256 ^ (width - i))
@@ -19,48 +17,27 @@ Inv-loop width window at number₀ i₀ number i = (i ≤ width) × (number ≡ 
 abbrev μ-loop : tie.MeasureT-loop
 μ-loop width window at number₀ i₀ number i = i
 
--- src/slots.rt:87:5
 loop-holds : tie.Need-loop-holds Inv-loop μ-loop
 loop-holds c =
     let w = c .args .width in
     let z : w - w ≡ 0 = omega arith in
     rw z (omega arith, load-none (c .args .at + w) (now (c .args .window)), omega arith)
 
--- src/slots.rt:88:9
-sub-i : tie.Need-sub-i Inv-loop μ-loop
-sub-i c = search needs
-
--- src/slots.rt:89:18
 mul-number : tie.Need-mul-number Inv-loop μ-loop
 mul-number c =
     let a = c .before .before .args in
     let l = c .before .loop in
     record { fits = omega (arith, pow-le-pow-right {n = 256} (omega arith) {i = a .width - l .i} {j = 7} (omega arith)) }
 
--- src/slots.rt:89:40
-add-number : tie.Need-add-number Inv-loop μ-loop
-add-number c = search needs
-
--- src/slots.rt:89:33
-shared-slice-read-number : tie.Need-shared-slice-read-number Inv-loop μ-loop
-shared-slice-read-number c = search needs
-
--- src/slots.rt:89:33
 cast-number : tie.Need-cast-number Inv-loop μ-loop
 cast-number c = record { fits = omega (arith, c .shared-slice-known .given (c .before .before .before .args .at + (c .before .before .loop .i - 1))) }
 
--- src/slots.rt:89:18
 add-number-2 : tie.Need-add-number-2 Inv-loop μ-loop
 add-number-2 c =
     let a = c .before .before .before .args in
     let l = c .before .before .loop in
     record { fits = omega (arith, pow-le-pow-right {n = 256} (omega arith) {i = a .width - l .i} {j = 7} (omega arith), c .shared-slice-known .given (a .at + (l .i - 1))) }
 
--- src/slots.rt:87:5
-loop-less : tie.Need-loop-less Inv-loop μ-loop
-loop-less c = search needs
-
--- src/slots.rt:87:5
 loop-again : tie.Need-loop-again Inv-loop μ-loop
 loop-again c =
     let a = c .before .before .before .args in
@@ -74,7 +51,6 @@ loop-again c =
       rw (e, pow-suc 256 k) (omega (arith, c .shared-slice-known .given j, l .inv .2)),
     )
 
--- src/slots.rt:81:1
 returns : tie.Need-returns Inv-loop μ-loop
 returns c =
     let a = c .before .before .args in
@@ -86,16 +62,4 @@ returns c =
 pub load-slot-spec : {M : Type 1} → statement M
 load-slot-spec =
     tie.close
-    (tie.spec
-    Inv-loop
-    μ-loop
-    loop-holds
-    sub-i
-    mul-number
-    add-number
-    shared-slice-read-number
-    cast-number
-    add-number-2
-    loop-less
-    loop-again
-    returns)
+    (tie.spec Inv-loop μ-loop loop-holds (λ c. search needs) mul-number (λ c. search needs) (λ c. search needs) cast-number add-number-2 (λ c. search needs) loop-again returns)
