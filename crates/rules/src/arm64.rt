@@ -92,9 +92,11 @@ fn downwards(pairs: [bool; 9]) -> [u16; 20]
     let mut p: usize = 0;
     while p < 9 {
         if pairs[p] {
-            let at = pair_place(p);
-            below[at] = next;
-            below[at + 1] = next + 8;
+            let lower = pair_place(p);
+            let higher = lower + 1;
+            let further = next + 8;
+            below[lower] = next;
+            below[higher] = further;
             next += 16;
         }
         p += 1;

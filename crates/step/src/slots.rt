@@ -122,9 +122,9 @@ pub(crate) fn load_all(
 {
     let mut i = 0;
     while i < below.len() {
-        let d = below[i] as u64;
-        if d != 0 {
-            let at = cfa - d - base;
+        let far = below[i] as u64;
+        if far != 0 {
+            let at = cfa - far - base;
             kept[i] = load_slot(width, window, at as usize);
         }
         i += 1;

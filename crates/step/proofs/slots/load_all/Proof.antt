@@ -38,8 +38,8 @@ loop-holds c =
       begin (inside (a .width) (a .base) (length (now (a .window))) (a .cfa)) (λ (d : ℕ). load (a .width) (a .cfa - d - a .base) (now (a .window))) (now (a .below)) (now (a .kept)) (c .before .before .before .pre .1),
     )
 
-cast-d : tie.Need-cast-d Inv-loop μ-loop
-cast-d c = record { fits = omega (arith, c .shared-slice-known3 .given (c .before .before .loop .i)) }
+cast-far : tie.Need-cast-far Inv-loop μ-loop
+cast-far c = record { fits = omega (arith, c .shared-slice-known3 .given (c .before .before .loop .i)) }
 
 sub-at : tie.Need-sub-at Inv-loop μ-loop
 sub-at c =
@@ -87,4 +87,4 @@ returns c =
 pub load-all-spec : {M : Type 1} → statement M
 load-all-spec =
     tie.close
-    (tie.spec Inv-loop μ-loop loop-holds (λ c. search needs) (λ c. search needs) cast-d sub-at sub-at-2 load-slot-requires (λ c. search needs) (λ c. search needs) (λ c. search needs) (λ c. search needs) loop-again same-length returns)
+    (tie.spec Inv-loop μ-loop loop-holds (λ c. search needs) (λ c. search needs) cast-far sub-at sub-at-2 load-slot-requires (λ c. search needs) (λ c. search needs) (λ c. search needs) (λ c. search needs) loop-again same-length returns)
