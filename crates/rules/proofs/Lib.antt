@@ -8,3 +8,4 @@ pub mod SaysArm64
 pub mod FramesX86
 pub mod FramesArm64
 pub mod One
+pub mod Examples

@@ -44,4 +44,3 @@ pub is-recorded-spec : {M : Type 1} → statement M
 is-recorded-spec =
     tie.close
     (tie.spec Inv-loop μ-loop loop-holds (λ c. search needs) (λ c. search needs) (λ c. search needs) (λ c. search needs) (λ c κs. search needs) returns (λ c. search needs) (λ c. search needs) loop-again returns-2)
--- x
