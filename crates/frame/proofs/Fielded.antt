@@ -1,7 +1,7 @@
 -- The prologue with a frame pointer and fields leaves its frame.
 -- Assumes nothing.
 use Prim.Native.Nat.{ℕ, zero, suc, _+_, _-_, _^_, _<_, _≤_}
-use mathlib.Core.Path.{_≡_, refl, ap, sym, _∙_}
+use mathlib.Core.Path.{_≡_, ap, sym, _∙_}
 use mathlib.Core.Logic.{inl, inr}
 use mathlib.Core.List.{List, [], _∷_}
 use native.Mathlib.Omega.{arith}
@@ -12,7 +12,7 @@ use Rattle.frame.specs.Frame.{Slot, lowest}
 use Rattle.frame.specs.Calls.{Machine, All, Apart, Spread, Held, stores, Ran}
 use Rattle.frame.specs.Fields.{fieldSlots, saved, frameBased, prologue}
 use Rattle.frame.proofs.Slots.{load-same}
-use Rattle.frame.proofs.Stores.{all-map, all-both, lowest-all, length-stores, stores-other, stores-above, stores-saved}
+use Rattle.frame.proofs.Stores.{all-map, all-both, lowest-all, length-stores, stores-other, stores-above, stores-saved, stores-kept}
 
 -- sound fields: each names a register before the frame pointer, and its slot lies below the saved frame pointer
 abbrev pub Fields : ℕ → ℕ → ℕ → List ℕ → Type 0
@@ -58,14 +58,6 @@ off-return w fp offset fs sound = (
   all-map (Between w fp (w + w + offset)) (λ (s : Slot). Apart w w w (s .below)) (λ s i. inl (omega (arith, i .0))) (fieldSlots w (w + w + offset) fs)
       (fields-in w fp (w + w + offset) fs sound),
 )
-
--- the stores go by the values of the registers stored
-stores-kept : (w base cfa : ℕ) (k k′ : List ℕ) (ss : List Slot) (l : List ℕ) → All (λ (s : Slot). getD k (s .reg) 0 ≡ getD k′ (s .reg) 0) ss
-    → stores w base cfa k ss l ≡ stores w base cfa k′ ss l
-stores-kept w base cfa k k′ [] l a = refl
-stores-kept w base cfa k k′ (s ∷ ss) l a =
-    stores-kept w base cfa k k′ ss (store w (cfa - s .below - base) (getD k (s .reg) 0) l) (a .1)
-    ∙ ap (λ (v : ℕ). stores w base cfa k′ ss (store w (cfa - s .below - base) v l)) (a .0)
 
 module _ (w base cfa fp offset : ℕ) (fs : List ℕ) (mc : Machine) (entry : mc .regs .sp + w ≡ cfa) (whole : cfa ≤ base + length (mc .mem))
     (sound : Fields w fp (w + w + offset) fs) (low : base + lowest (saved w fp offset fs) ≤ cfa) (last : fp < length (mc .regs .kept)) where

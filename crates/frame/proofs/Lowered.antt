@@ -1,85 +1,119 @@
 -- The prologues that find the return address in a register leave their frames.
 -- Assumes nothing.
 use Prim.Native.Nat.{ℕ, _+_, _-_, _^_, _<_, _≤_}
-use mathlib.Core.Path.{refl, sym}
-use mathlib.Core.Logic.{inl, inr}
+use mathlib.Core.Path.{_≡_, refl, ap, sym, _∙_}
+use mathlib.Core.Logic.{inl}
 use mathlib.Core.List.{List, [], _∷_}
 use native.Mathlib.Omega.{arith}
-use lib.ListN.{length, getD, length-set}
+use lib.ListN.{length, getD, set, length-set}
 use lib.Seq.{getD-set-same, getD-set-other}
 use Rattle.frame.specs.Frame.{Slot, lowest}
-use Rattle.frame.specs.Calls.{Machine, All, Apart, Spread, Held, Ran}
-use Rattle.frame.specs.Downwards.{down, saved, frameBased, prologue, frameless, lowered}
+use Rattle.frame.specs.Memory.{bytes, part, store}
+use Rattle.frame.specs.Calls.{Machine, All, Apart, Spread, Held, stores, Ran}
+use Rattle.frame.specs.Pushes.{push}
+use Rattle.frame.specs.Fields.{copied}
+use Rattle.frame.specs.Downwards.{down, saved, frameBased, pushEach, prologue, frameless, lowered}
 use Rattle.frame.proofs.Slots.{load-of}
-use Rattle.frame.proofs.Stores.{all-map, all-both, lowest-all, length-stores, stores-above, stores-saved}
+use Rattle.frame.proofs.Stores.{all-map, all-both, lowest-all, length-stores, stores-above, stores-saved, stores-kept}
 
--- the places are among n
-abbrev pub Places : ℕ → List ℕ → Type 0
-Places n [] = Unit {0}
-Places n (x ∷ xs) = (x < n) × Places n xs
+-- the places are among n, and none is the frame pointer's
+abbrev pub Places : ℕ → ℕ → List ℕ → Type 0
+Places n fp [] = Unit {0}
+Places n fp (x ∷ xs) = (x < n) × (x ≡ fp → ⊥) × Places n fp xs
 
-module _ (w n : ℕ) where
-  -- a slot that starts at d or lower, of a known register
+module _ (w n fp : ℕ) where
+  -- a slot d below CFA or lower, of a known register that is not the frame pointer
   abbrev From : ℕ → Slot → Type 0
-  From d s = (d ≤ s .below) × (s .reg < n)
+  From d s = (d ≤ s .below) × (s .reg < n) × (s .reg ≡ fp → ⊥)
 
-  down-in : (d : ℕ) (xs : List ℕ) → Places n xs → All (From d) (down w d xs)
+  down-in : (d : ℕ) (xs : List ℕ) → Places n fp xs → All (From d) (down w d xs)
   down-in d [] p = tt
   down-in d (x ∷ xs) p = (
-    (omega arith, p .0),
-    all-map (From (d + w)) (From d) (λ s i. (omega (arith, i .0), i .1)) (down w (d + w) xs) (down-in (d + w) xs (p .1)),
+    (omega arith, p .0, p .1),
+    all-map (From (d + w)) (From d) (λ s i. (omega (arith, i .0), i .1, i .2)) (down w (d + w) xs) (down-in (d + w) xs (p .2)),
   )
 
-  down-spread : (d : ℕ) (xs : List ℕ) → Places n xs → Spread w (down w d xs)
-  down-spread d [] p = tt
-  down-spread d (x ∷ xs) p = (
-    all-map (From (d + w)) (λ (s : Slot). Apart w d w (s .below)) (λ s i. inl (i .0)) (down w (d + w) xs) (down-in (d + w) xs (p .1)),
-    down-spread (d + w) xs (p .1),
-  )
+-- slots one below the other lie apart
+down-from : (w d : ℕ) (xs : List ℕ) → All (λ (s : Slot). d ≤ s .below) (down w d xs)
+down-from w d [] = tt
+down-from w d (x ∷ xs) = (omega arith, all-map (λ (s : Slot). d + w ≤ s .below) (λ (s : Slot). d ≤ s .below) (λ s i. omega arith) (down w (d + w) xs) (down-from w (d + w) xs))
 
-  -- the slots lie apart
-  pub spread : (fp lr : ℕ) (xs : List ℕ) → Places n xs → Spread w (saved w fp lr xs)
-  spread fp lr xs p =
-      let i = down-in (w + w + w) xs p in (
-        (inr (omega arith), all-map (From (w + w + w)) (λ (s : Slot). Apart w (w + w) w (s .below)) (λ s j. inl (j .0)) (down w (w + w + w) xs) i),
-        (
-          all-map (From (w + w + w)) (λ (s : Slot). Apart w w w (s .below)) (λ s j. inl (omega (arith, j .0))) (down w (w + w + w) xs) i,
-          down-spread (w + w + w) xs p,
-        ),
-      )
+pub spread : (w d : ℕ) (xs : List ℕ) → Spread w (down w d xs)
+spread w d [] = tt
+spread w d (x ∷ xs) = (
+  all-map (λ (s : Slot). d + w ≤ s .below) (λ (s : Slot). Apart w d w (s .below)) (λ s i. inl i) (down w (d + w) xs) (down-from w (d + w) xs),
+  spread w (d + w) xs,
+)
 
-module _ (w base fp lr : ℕ) (xs : List ℕ) (mc : Machine) (p : Places (length (mc .regs .kept)) xs) (known : fp < length (mc .regs .kept))
+kept-each : (w base : ℕ) (xs : List ℕ) (mc : Machine) → pushEach w base xs mc .regs .kept ≡ mc .regs .kept
+kept-each w base [] mc = refl
+kept-each w base (x ∷ xs) mc = kept-each w base xs (push w base x mc)
+
+-- registers stored one after the other are the slots' stores
+each : (w base cfa d : ℕ) (xs : List ℕ) (mc : Machine) → mc .regs .sp + d ≡ cfa + w → base + lowest (down w d xs) ≤ cfa
+    → pushEach w base xs mc .mem ≡ stores w base cfa (mc .regs .kept) (down w d xs) (mc .mem)
+each w base cfa d [] mc e h = refl
+each w base cfa d (x ∷ xs) mc e h =
+    let q : mc .regs .sp - w - base ≡ cfa - d - base = omega arith in
+    each w base cfa (d + w) xs (push w base x mc) (omega arith) (omega arith)
+    ∙ ap (λ (i : ℕ). stores w base cfa (mc .regs .kept) (down w (d + w) xs) (store w i (getD (mc .regs .kept) x 0) (mc .mem))) q
+
+module _ (w base fp lr : ℕ) (xs : List ℕ) (mc : Machine) (p : Places (length (mc .regs .kept)) fp xs) (known : fp < length (mc .regs .kept))
     (known′ : lr < length (mc .regs .kept)) (low : base + lowest (saved w fp lr xs) ≤ mc .regs .sp) (whole : mc .regs .sp ≤ base + length (mc .mem)) where
-  held : All (Held w base (mc .regs .sp) (length (mc .regs .kept))) (saved w fp lr xs)
+  abbrev kept : List ℕ
+  kept = mc .regs .kept
+
+  abbrev cfa : ℕ
+  cfa = mc .regs .sp
+
+  inner : All (From w (length kept) fp (w + w + w)) (down w (w + w + w) xs)
+  inner = down-in w (length kept) fp (w + w + w) xs p
+
+  held : All (Held w base cfa (length kept)) (saved w fp lr xs)
   held =
-      let n = length (mc .regs .kept) in
-      let r = lowest-all base (mc .regs .sp) (saved w fp lr xs) low in (
-        record { low = omega arith; high = r .0; known = known },
+      let r = lowest-all base cfa (saved w fp lr xs) low in (
+        record { low = omega arith; high = r .0; known = known′ },
         (
-          record { low = omega arith; high = r .1 .0; known = known′ },
-          all-map (λ (s : Slot). From w n (w + w + w) s × (base + s .below ≤ mc .regs .sp)) (Held w base (mc .regs .sp) n)
+          record { low = omega arith; high = r .1 .0; known = known },
+          all-map (λ (s : Slot). From w (length kept) fp (w + w + w) s × (base + s .below ≤ cfa)) (Held w base cfa (length kept))
               (λ s i. record { low = omega (arith, i .0 .0); high = i .1; known = i .0 .1 }) (down w (w + w + w) xs)
-              (all-both (From w n (w + w + w)) (λ (s : Slot). base + s .below ≤ mc .regs .sp) (down w (w + w + w) xs) (down-in w n (w + w + w) xs p) (r .1 .1)),
+              (all-both (From w (length kept) fp (w + w + w)) (λ (s : Slot). base + s .below ≤ cfa) (down w (w + w + w) xs) inner (r .1 .1)),
         ),
       )
+
+  -- the prologue's window is that of the slots' stores, with the registers as at entry
+  window : prologue w base fp lr xs mc .mem ≡ stores w base cfa kept (saved w fp lr xs) (mc .mem)
+  window =
+      let b : base + (w + w) ≤ cfa = held .1 .0 .high in
+      let first : pushEach w base (lr ∷ fp ∷ []) mc .mem ≡ stores w base cfa kept (down w w (lr ∷ fp ∷ [])) (mc .mem) = each w base cfa w (lr ∷ fp ∷ []) mc refl (omega arith) in
+      each w base cfa (w + w + w) xs (copied fp (pushEach w base (lr ∷ fp ∷ []) mc)) (omega arith) (omega arith)
+      ∙ stores-kept w base cfa (set kept fp (cfa - w - w)) kept (down w (w + w + w) xs) (pushEach w base (lr ∷ fp ∷ []) mc .mem)
+      (all-map (From w (length kept) fp (w + w + w)) (λ (s : Slot). getD (set kept fp (cfa - w - w)) (s .reg) 0 ≡ getD kept (s .reg) 0)
+      (λ s i. getD-set-other kept fp (s .reg) (cfa - w - w) 0 (i .2)) (down w (w + w + w) xs) inner)
+      ∙ ap (stores w base cfa kept (down w (w + w + w) xs)) first
+
+  after : prologue w base fp lr xs mc .regs .kept ≡ set kept fp (cfa - w - w)
+  after = kept-each w base xs (copied fp (pushEach w base (lr ∷ fp ∷ []) mc))
 
   -- the caller's pc is the return register's value at entry
   pub ran : getD (mc .regs .kept) lr 0 < 256 ^ w → base + length (mc .mem) < 256 ^ w
       → Ran w base (mc .regs .sp) (frameBased w fp lr xs) (mc .regs) (mc .mem) (getD (mc .regs .kept) lr 0) (prologue w base fp lr xs mc .regs) (prologue w base fp lr xs mc .mem)
   ran word t =
-      let n = length-stores w base (mc .regs .sp) (mc .regs .kept) (saved w fp lr xs) (mc .mem) in
-      let s = stores-saved w base (mc .regs .sp) (mc .regs .kept) (length (mc .regs .kept)) (saved w fp lr xs) (mc .mem) whole held (spread w (length (mc .regs .kept)) fp lr xs p) in
+      let n : length (prologue w base fp lr xs mc .mem) ≡ length (mc .mem) = ap length window ∙ length-stores w base cfa kept (saved w fp lr xs) (mc .mem) in
+      let s : All (λ (t : Slot). part w (cfa - t .below - base) (prologue w base fp lr xs mc .mem) ≡ bytes w (getD kept (t .reg) 0)) (saved w fp lr xs) =
+      rw window (stores-saved w base cfa kept (length kept) (saved w fp lr xs) (mc .mem) whole held (spread w w (lr ∷ fp ∷ xs))) in
+      let there : (k : ℕ) → getD (prologue w base fp lr xs mc .regs .kept) k 0 ≡ getD (set kept fp (cfa - w - w)) k 0 = λ k. ap (λ (l : List ℕ). getD l k 0) after in
       record {
-        at = omega (arith, getD-set-same (mc .regs .kept) fp (mc .regs .sp - (w + w)) 0 known, held .0 .high);
+        at = omega (arith, there fp, getD-set-same kept fp (cfa - w - w) 0 known, held .1 .0 .high);
         bounded = omega arith;
         whole = omega arith;
         held = held;
         slots = s;
-        return = (omega arith, held .1 .0 .high, load-of w (mc .regs .sp - w - base) (getD (mc .regs .kept) lr 0) (prologue w base fp lr xs mc .mem) word (s .1 .0));
-        long = length-set (mc .regs .kept) fp (mc .regs .sp - (w + w));
-        others = λ k u. getD-set-other (mc .regs .kept) fp k (mc .regs .sp - (w + w)) 0 (λ e. u .0 (sym e));
+        return = (omega arith, held .0 .high, load-of w (cfa - w - base) (getD kept lr 0) (prologue w base fp lr xs mc .mem) word (s .0));
+        long = ap length after ∙ length-set kept fp (cfa - w - w);
+        others = λ k u. there k ∙ getD-set-other kept fp k (cfa - w - w) 0 (λ e. u .1 .0 (sym e));
         window = n;
-        above = λ q l. stores-above w base (mc .regs .sp) (mc .regs .kept) (length (mc .regs .kept)) q (saved w fp lr xs) (mc .mem) l held;
+        above = λ q l. ap (part w q) window ∙ stores-above w base cfa kept (length kept) q (saved w fp lr xs) (mc .mem) l held;
       }
 
 -- the stack pointer lowered, nothing stored

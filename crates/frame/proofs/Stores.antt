@@ -1,7 +1,7 @@
 -- What holds of every slot, and what storing registers into slots does to the window.
 -- Assumes nothing.
 use Prim.Native.Nat.{ℕ, _+_, _-_, _≤_}
-use mathlib.Core.Path.{_≡_, refl, _∙_}
+use mathlib.Core.Path.{_≡_, refl, ap, _∙_}
 use mathlib.Core.Logic.{inl, inr, ⊎-elim}
 use mathlib.Core.List.{List, [], _∷_}
 use native.Mathlib.Omega.{arith}
@@ -55,3 +55,11 @@ module _ (w base cfa : ℕ) (kept : List ℕ) where
             ∙ part-store-same w (cfa - s .below - base) (getD kept (s .reg) 0) l (omega (arith, a .0 .low, a .0 .high)),
         stores-saved n ss l′ (omega arith) (a .1) (p .1),
       )
+
+-- the stores go by the values of the registers stored
+pub stores-kept : (w base cfa : ℕ) (k k′ : List ℕ) (ss : List Slot) (l : List ℕ) → All (λ (s : Slot). getD k (s .reg) 0 ≡ getD k′ (s .reg) 0) ss
+    → stores w base cfa k ss l ≡ stores w base cfa k′ ss l
+stores-kept w base cfa k k′ [] l a = refl
+stores-kept w base cfa k k′ (s ∷ ss) l a =
+    stores-kept w base cfa k k′ ss (store w (cfa - s .below - base) (getD k (s .reg) 0) l) (a .1)
+    ∙ ap (λ (v : ℕ). stores w base cfa k′ ss (store w (cfa - s .below - base) v l)) (a .0)

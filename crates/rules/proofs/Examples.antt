@@ -2,7 +2,7 @@
 -- Assumes nothing.
 use mathlib.Core.Path.{refl}
 use native.Mathlib.Omega.{arith}
-use Rattle.permutation.specs.Permutation.{rows, bounds}
+use Rattle.permutation.specs.Permutation.{bounds}
 use Rattle.rules.specs.SoundX86 as x86
 use Rattle.rules.specs.SoundArm64 as arm64
 use Rattle.rules.proofs.FieldsX86.{passes-sound}

@@ -2,7 +2,7 @@
 -- Assumes nothing.
 use Prim.Native.Nat.{ℕ, zero, suc, _+_, _*_, _<_, _≤_}
 use mathlib.Core.Path.{_≡_, refl, ap, sym, _∙_}
-use mathlib.Core.Logic.{_⊎_, inl, inr}
+use mathlib.Core.Logic.{_⊎_, inl, inr, ⊎-elim}
 use mathlib.Core.Bool.{Bool, true, false, cond}
 use mathlib.Core.List.{List, [], _∷_, _++_, append-assoc, append-nil}
 use native.Mathlib.Omega.{arith}
@@ -65,25 +65,29 @@ never-both w n s f =
     let z : 0 ≡ n .number = ap (λ (u : Ruling). u .refusal .number) (sym (sound-rule w s) ∙ refused-rule w n f) in
     omega (arith, z, refused-number w n f .0)
 
--- the listed registers are among twenty
-places-both : (xs ys : List ℕ) → Places 20 xs → Places 20 ys → Places 20 (xs ++ ys)
+-- the listed registers are among twenty, and x29 is not one of them
+places-both : (xs ys : List ℕ) → Places 20 10 xs → Places 20 10 ys → Places 20 10 (xs ++ ys)
 places-both [] ys p q = q
-places-both (x ∷ xs) ys p q = (p .0, places-both xs ys (p .1) q)
+places-both (x ∷ xs) ys p q = (p .0, p .1, places-both xs ys (p .2) q)
 
-places-pair : (b : Bool) (p : ℕ) → p + 2 ≤ 20 → Places 20 (cond b (p ∷ suc p ∷ []) [])
-places-pair true p h = (omega arith, (omega arith, tt))
-places-pair false p h = tt
+-- the pair's places are from p on, before or after x29's
+places-pair : (b : Bool) (p : ℕ) → p + 2 ≤ 20 → (p + 2 ≤ 10) ⊎ (10 < p) → Places 20 10 (cond b (p ∷ suc p ∷ []) [])
+places-pair true p h (inl l) = (omega arith, λ e. omega arith, (omega arith, λ e. omega arith, tt))
+places-pair true p h (inr l) = (omega arith, λ e. omega arith, (omega arith, λ e. omega arith, tt))
+places-pair false p h l = tt
 
-places-pairs : (w n j p : ℕ) → p + 2 * n ≤ 20 → Places 20 (pairs w n j p)
-places-pairs w zero j p h = tt
-places-pairs w (suc n) j p h =
-    places-both (cond (eqb (bits j 1 w) 1) (p ∷ suc p ∷ []) []) (pairs w n (suc j) (p + 2)) (places-pair (eqb (bits j 1 w) 1) p (omega arith))
-    (places-pairs w n (suc j) (p + 2) (omega arith))
+places-pairs : (w n j p : ℕ) → p + 2 * n ≤ 20 → (p + 2 * n ≤ 10) ⊎ (10 < p) → Places 20 10 (pairs w n j p)
+places-pairs w zero j p h l = tt
+places-pairs w (suc n) j p h l =
+    places-both (cond (eqb (bits j 1 w) 1) (p ∷ suc p ∷ []) []) (pairs w n (suc j) (p + 2))
+    (places-pair (eqb (bits j 1 w) 1) p (omega arith) (⊎-elim (λ a. inl (omega arith)) (λ a. inr a) l))
+    (places-pairs w n (suc j) (p + 2) (omega arith) (⊎-elim (λ a. inl (omega arith)) (λ a. inr (omega arith)) l))
 
-pub listed-places : (w : ℕ) → Places 20 (listed w)
-listed-places w = places-both (pairs w 5 0 0) (pairs w 4 5 12) (places-pairs w 5 0 0 (omega arith)) (places-pairs w 4 5 12 (omega arith))
+pub listed-places : (w : ℕ) → Places 20 10 (listed w)
+listed-places w =
+    places-both (pairs w 5 0 0) (pairs w 4 5 12) (places-pairs w 5 0 0 (omega arith) (inl (omega arith))) (places-pairs w 4 5 12 (omega arith) (inr (omega arith)))
 
 -- Slots of a sound word lie apart.
 pub apart : (w : ℕ) (s : Sound w) → Spread 8 (frameOf w s .saved)
-apart w (frameBased k) = lowered.spread 8 20 10 11 (listed w) (listed-places w)
+apart w (frameBased k) = lowered.spread 8 8 (11 ∷ 10 ∷ listed w)
 apart w (frameless k) = tt
