@@ -6,14 +6,11 @@ use mathlib.Core.Bool.{Bool, true, false, cond, _&&_}
 use native.Mathlib.Omega.{arith}
 use borrow.Author.Tests.{leb-true}
 use lib.Dec.{leb}
+use Rattle.permutation.proofs.Tests.{both-left, both-right}
 use Rattle.frame.specs.Frame.{inside}
 use Rattle.step.specs.Slots.{cfaOf, spotOf}
 use Rattle.step.specs.declared.slots.Cfa.{Cfa}
 use Rattle.step.specs.declared.slots.Spot.{Spot}
-
-pub both : (a b : Bool) → (a && b) ≡ true → (a ≡ true) × (b ≡ true)
-both true b e = (refl, e)
-both false b e = absurd (let z : _≡_ {A = ℕ} 0 1 = cc in omega arith)
 
 module _ (top base len anchor distance : ℕ) where
   abbrev fit : Bool
@@ -49,9 +46,8 @@ module _ (w base len cfa d : ℕ) where
       go false p = refl
 
   pub low : inside w base len cfa d ≡ true → base + d ≤ cfa
-  low e = leb-true (base + d) cfa (both (leb (base + d) cfa) (leb (cfa + w) (base + len + d)) e .0)
+  low e = leb-true (base + d) cfa (both-left (leb (base + d) cfa) (leb (cfa + w) (base + len + d)) e)
 
   pub room : inside w base len cfa d ≡ true → cfa - d - base + w ≤ len
   room e =
-      let p = both (leb (base + d) cfa) (leb (cfa + w) (base + len + d)) e in
-      omega (arith, leb-true (base + d) cfa (p .0), leb-true (cfa + w) (base + len + d) (p .1))
+      omega (arith, low e, leb-true (cfa + w) (base + len + d) (both-right (leb (base + d) cfa) (leb (cfa + w) (base + len + d)) e))

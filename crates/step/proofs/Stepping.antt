@@ -1,10 +1,11 @@
 -- A step by the rule that was computed is the step by the word.
 -- Assumes nothing.
-use Prim.Native.Nat.{ℕ, _+_}
+use Prim.Native.Nat.{ℕ, _+_, _≤_}
 use mathlib.Core.Path.{_≡_, refl, ap, sym, _∙_}
 use mathlib.Core.Bool.{true, false}
 use mathlib.Core.List.{List}
 use native.Mathlib.Omega.{arith}
+use borrow.Author.Tests.{ne-eqb}
 use lib.Dec.{eqb}
 use lib.ListN.{getD, replicate}
 use Rattle.opcodes.specs.WordsArm64 as arm
@@ -46,6 +47,10 @@ module _ (w : ℕ) (u : Ruling) (base : ℕ) (mem : List ℕ) (r : Regs) (o : Ou
   steps q =
       let n : eqb (u .refusal .number) 0 ≡ true = ap (λ (k : Number). eqb (k .number) 0) (sym e ∙ ap outcomeOf q) in
       simp n
+
+-- a rule that refuses refuses the step
+pub refused-by : (w : ℕ) (u : Ruling) (base : ℕ) (mem : List ℕ) (r : Regs) → 20 ≤ u .refusal .number → stepBy w u base mem r ≡ record { refusal = u .refusal; regs = r }
+refused-by w u base mem r h = simp (ne-eqb (u .refusal .number) 0 (omega arith))
 
 -- x86_64: by the rule that was computed, and the anchor that it names
 module _ (word base : ℕ) (mem : List ℕ) (u : «RuleX86_64») (g : «RegistersX86_64») (e : x86.ruleTold u ≡ x86.ruleOf word) where

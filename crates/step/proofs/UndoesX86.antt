@@ -1,24 +1,23 @@
 -- x86_64: a step undoes the prologue of every sound word, and refuses the others.
 -- Assumes nothing.
 use Prim.Native.Nat.{ℕ, _+_, _-_}
-use mathlib.Core.Path.{_≡_, refl, ap}
-use mathlib.Core.Bool.{false}
+use mathlib.Core.Path.{_≡_, refl, ap, _∙_}
 use mathlib.Core.List.{List}
 use native.Mathlib.Omega.{arith}
-use borrow.Author.Tests.{ne-eqb}
-use lib.Dec.{eqb}
 use Rattle.frame.specs.Memory.{load}
 use Rattle.frame.specs.Frame.{Regs, places}
 use Rattle.frame.specs.Calls.{Machine, Ran, Body, Entered}
 use Rattle.frame.proofs.Undo.{undo}
 use Rattle.frame.proofs.Pushed as pushed
 use Rattle.frame.proofs.Fielded as fielded
-use Rattle.rules.specs.Answers.{Number, numbered}
+use Rattle.rules.specs.Answers.{Number, numbered, Ruling}
+use Rattle.rules.specs.RulesX86.{ruleOf}
 use Rattle.rules.specs.SoundX86.{sizeOf, fieldsOf, Sound, frameBased, frameless, Refused, frameOf, prologue, extent}
 use Rattle.rules.proofs.ListsX86.{list-named}
 use Rattle.rules.proofs.FramesX86.{sound-rule, refused-rule, refused-number, room, based-fields}
-use Rattle.step.specs.Steps.{regsOf, plain}
+use Rattle.step.specs.Steps.{Told, regsOf, plain}
 use Rattle.step.specs.StepsX86.{stepOf}
+use Rattle.step.proofs.Stepping.{refused-by}
 
 -- the prologue leaves the frame
 ran : (w : ℕ) (s : Sound w) (base : ℕ) (mc : Machine) → Entered 8 6 base (mc .regs .sp + 8) (extent w s) mc
@@ -47,5 +46,5 @@ undoes w s base mc en r m body =
 pub refused-step : (w : ℕ) (n : Number) → Refused w n → (base : ℕ) (mem : List ℕ) (r : Regs) → stepOf w base mem r ≡ record { refusal = n; regs = r }
 unfolding stepOf
 refused-step w n f base mem r =
-    let e : eqb (n .number) 0 ≡ false = ne-eqb (n .number) 0 (λ z. omega (arith, z, refused-number w n f .0)) in
-    simp (refused-rule w n f, e)
+    let e : ruleOf w .refusal ≡ n = ap (λ (u : Ruling). u .refusal) (refused-rule w n f) in
+    refused-by 8 (ruleOf w) base mem r (rw e (refused-number w n f .0)) ∙ ap {B = Told} (λ (k : Number). record { refusal = k; regs = r }) e

@@ -9,9 +9,10 @@ use native.Mathlib.Numerals.{add-one}
 use borrow.Author.Needs.{needs}
 use lib.ListN.{length, getD, drop}
 use denote.Ref.{now}
+use Rattle.permutation.proofs.Tests.{both-left}
 use Rattle.frame.specs.Memory.{load}
 use Rattle.frame.specs.Frame.{inside, allInside}
-use Rattle.step.proofs.Spots.{both, low, room}
+use Rattle.step.proofs.Spots.{low, room}
 use Rattle.step.proofs.Turns.{Going, one, begin, skip, loads, end}
 use Rattle.step.proofs.slots.load_all.Statement.{statement}
 use Rattle.step.proofs.slots.load_all.Tie as tie
@@ -28,8 +29,8 @@ slot-inside c n =
     let a = c .before .before .before .before .before .args in
     let l = c .before .loop in
     let F = inside (a .width) (a .base) (length (now (a .window))) (a .cfa) in
-    both (F (getD (now (a .below)) (l .i) 0)) (allInside F (drop (suc (l .i)) (now (a .below))))
-    (sym (one F (now (a .below)) (l .i) (c .loop-test .taken) n) ∙ sym (l .inv .1 .same) ∙ c .before .before .before .before .before .pre .2) .0
+    both-left (F (getD (now (a .below)) (l .i) 0)) (allInside F (drop (suc (l .i)) (now (a .below))))
+    (sym (one F (now (a .below)) (l .i) (c .loop-test .taken) n) ∙ sym (l .inv .1 .same) ∙ c .before .before .before .before .before .pre .2)
 
 loop-holds : tie.Need-loop-holds Inv-loop μ-loop
 loop-holds c =
