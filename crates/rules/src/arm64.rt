@@ -1,9 +1,8 @@
 // Rules of arm64.
 ghost use mathlib.Core.Path.{_≡_};
 ghost use Prim.Native.Nat.{_<_};
-ghost use Rattle.frame.specs.Frame.{distancesOf};
-ghost use Rattle.frame.specs.Downwards.{saved};
-ghost use Rattle.rules.specs.Answers.{refusalOf};
+ghost use Rattle.frame.specs.Downwards as down;
+ghost use Rattle.rules.specs.Answers.{refusalOf, ruling};
 ghost use Rattle.rules.specs.RulesArm64.{ruleOf, pairPlace, listedFrom, refusal, ruleTold};
 use crate::CfaRegister;
 use crate::Outcome;
@@ -28,12 +27,7 @@ impl RuleArm64 {
             OpcodeArm64::Null => refuse(Refusal::Null),
             OpcodeArm64::Frameless {
                 stack_size_in_bytes,
-            } => RuleArm64 {
-                outcome: Outcome::Answered,
-                cfa_register: CfaRegister::StackPointer,
-                cfa_distance: stack_size_in_bytes as u64,
-                below: [0u16; 20],
-            },
+            } => frameless(stack_size_in_bytes),
             OpcodeArm64::Dwarf { eh_frame_fde } => refuse(Refusal::Dwarf { eh_frame_fde }),
             OpcodeArm64::FrameBased {
                 saved_reg_pair_count: _,
@@ -46,25 +40,17 @@ impl RuleArm64 {
                 d10_and_d11_saved,
                 d12_and_d13_saved,
                 d14_and_d15_saved,
-            } => {
-                let pairs = [
-                    x19_and_x20_saved,
-                    x21_and_x22_saved,
-                    x23_and_x24_saved,
-                    x25_and_x26_saved,
-                    x27_and_x28_saved,
-                    d8_and_d9_saved,
-                    d10_and_d11_saved,
-                    d12_and_d13_saved,
-                    d14_and_d15_saved,
-                ];
-                RuleArm64 {
-                    outcome: Outcome::Answered,
-                    cfa_register: CfaRegister::FramePointer,
-                    cfa_distance: 16,
-                    below: downwards(pairs),
-                }
-            }
+            } => frame_based([
+                x19_and_x20_saved,
+                x21_and_x22_saved,
+                x23_and_x24_saved,
+                x25_and_x26_saved,
+                x27_and_x28_saved,
+                d8_and_d9_saved,
+                d10_and_d11_saved,
+                d12_and_d13_saved,
+                d14_and_d15_saved,
+            ]),
             OpcodeArm64::UnrecognizedKind(kind) => refuse(Refusal::UnrecognizedKind(kind)),
         }
     }
@@ -81,9 +67,21 @@ fn refuse(why: Refusal) -> RuleArm64
     }
 }
 
-// x29 and x30 next to CFA, then the pairs that are saved, each with its lower register first.
-fn downwards(pairs: [bool; 9]) -> [u16; 20]
-    ensures { λ r. ⌜ r ≡ distancesOf 20 (saved 8 10 11 (listedFrom 0 pairs)) ⌝ }
+// Nothing is stored.
+fn frameless(size: u16) -> RuleArm64
+    ensures { λ r. ⌜ ruleTold r ≡ ruling 20 (down.frameless 11 size) ⌝ }
+{
+    RuleArm64 {
+        outcome: Outcome::Answered,
+        cfa_register: CfaRegister::StackPointer,
+        cfa_distance: size as u64,
+        below: [0u16; 20],
+    }
+}
+
+// x29 and x30 lie next to CFA, then the pairs that are saved, each with its lower register first.
+fn frame_based(pairs: [bool; 9]) -> RuleArm64
+    ensures { λ r. ⌜ ruleTold r ≡ ruling 20 (down.frameBased 8 10 11 (listedFrom 0 pairs)) ⌝ }
 {
     let mut below = [0u16; 20];
     below[10] = 16;
@@ -101,7 +99,12 @@ fn downwards(pairs: [bool; 9]) -> [u16; 20]
         }
         p += 1;
     }
-    below
+    RuleArm64 {
+        outcome: Outcome::Answered,
+        cfa_register: CfaRegister::FramePointer,
+        cfa_distance: 16,
+        below,
+    }
 }
 
 // Where the lower register of a pair stands; x29 and x30 stand between the x pairs and the d pairs.

@@ -1,16 +1,18 @@
--- `rules::arm64::downwards` meets its contract: each turn places one more pair, or passes it over.
+-- `rules::arm64::frame_based` meets its contract: each turn places one more pair, or passes it over.
 -- Assumes nothing.
 use Prim.Native.Nat.{ℕ, _+_, _-_, _*_, _<_, _≤_}
-use mathlib.Core.Path.{_≡_, refl}
+use mathlib.Core.Path.{_≡_, refl, ap}
 use mathlib.Core.List.{List}
 use mathlib.Core.Logic.{⊎-elim}
 use native.Mathlib.Omega.{arith}
 use borrow.Author.Needs.{needs}
 use borrow.Kind.Array.{good-length, eBool}
 use lib.ListN.{length, set, replicate}
+use Rattle.frame.specs.Frame.{register, slot}
+use Rattle.rules.specs.Answers.{numbered, Ruling}
 use Rattle.rules.proofs.Pairing.{Turn, skip, places, end}
-use Rattle.rules.proofs.arm64.downwards.Statement.{statement}
-use Rattle.rules.proofs.arm64.downwards.Tie as tie
+use Rattle.rules.proofs.arm64.frame_based.Statement.{statement}
+use Rattle.rules.proofs.arm64.frame_based.Tie as tie
 
 abbrev Inv-loop : tie.InvT-loop
 Inv-loop pairs below₀ next₀ p₀ below next p = (p ≤ 9) × (next ≤ 24 + 16 * p) × Turn (set (set (replicate 20 0) 10 16) 11 8) pairs below next p
@@ -43,9 +45,10 @@ returns c =
     let a = c .before .before .args in
     let l = c .before .loop in
     let e : l .p ≡ length (a .t1) = omega (arith, size (c .before .before)) in
-    end (set (set (replicate 20 0) 10 16) 11 8) (a .t1) (l .below) (l .next) (rw e at (l .inv .2))
+    ap {B = Ruling} (λ (ds : List ℕ). record { refusal = numbered 0 0; anchor = register 10; distance = 16; return = slot 8; below = ds })
+    (end (set (set (replicate 20 0) 10 16) 11 8) (a .t1) (l .below) (l .next) (rw e at (l .inv .2)))
 
-pub downwards-spec : {M : Type 1} → statement M
-downwards-spec =
+pub frame-based-spec : {M : Type 1} → statement M
+frame-based-spec =
     tie.close
     (tie.spec Inv-loop μ-loop (λ c. search needs) (λ c. search needs) loop-holds (λ c. search needs) (λ c κs. search needs) (λ c. search needs) (λ c. search needs) (λ c. search needs) (λ c. search needs) (λ c. search needs) (λ c. search needs) (λ c. search needs) (λ c. search needs) (λ c. search needs) loop-again returns)
