@@ -4,4 +4,5 @@ pub mod Steps
 pub mod Stepping
 pub mod UndoesX86
 pub mod UndoesArm64
+pub mod Refused
 pub mod One
