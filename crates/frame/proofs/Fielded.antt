@@ -1,18 +1,19 @@
 -- The prologue with a frame pointer and fields leaves its frame.
 -- Assumes nothing.
 use Prim.Native.Nat.{ℕ, zero, suc, _+_, _-_, _^_, _<_, _≤_}
-use mathlib.Core.Path.{_≡_, ap, sym, _∙_}
+use mathlib.Core.Path.{_≡_, refl, ap, sym, _∙_}
 use mathlib.Core.Logic.{inl, inr}
 use mathlib.Core.List.{List, [], _∷_}
 use native.Mathlib.Omega.{arith}
-use lib.ListN.{length, getD, set, length-set}
-use lib.Seq.{getD-set-same, getD-set-other}
+use lib.ListN.{length, getD, set}
+use lib.Seq.{getD-set-other}
 use Rattle.frame.specs.Memory.{part, load, store}
 use Rattle.frame.specs.Frame.{Slot, lowest}
 use Rattle.frame.specs.Calls.{Machine, All, Apart, Spread, Held, stores, Ran}
 use Rattle.frame.specs.Fields.{fieldSlots, saved, frameBased, prologue}
 use Rattle.frame.proofs.Slots.{load-same}
-use Rattle.frame.proofs.Stores.{all-map, all-both, lowest-all, length-stores, stores-other, stores-above, stores-saved, stores-kept}
+use Rattle.frame.proofs.Pointed.{leaves}
+use Rattle.frame.proofs.Stores.{all-map, all-both, lowest-all, stores-other, stores-kept}
 
 -- sound fields: each names a register before the frame pointer, and its slot lies below the saved frame pointer
 abbrev pub Fields : ℕ → ℕ → ℕ → List ℕ → Type 0
@@ -91,21 +92,9 @@ module _ (w base cfa fp offset : ℕ) (fs : List ℕ) (mc : Machine) (entry : mc
       → Ran w base cfa (frameBased w fp offset fs) (mc .regs) (mc .mem) (load w (cfa - w - base) (mc .mem)) (prologue w base fp offset fs mc .regs) (prologue w base fp offset fs mc .mem)
   ran t =
       let b : base + (w + w) ≤ cfa = held .0 .high in
-      let n : length (prologue w base fp offset fs mc .mem) ≡ length (mc .mem) = ap length window ∙ length-stores w base cfa (mc .regs .kept) (saved w fp offset fs) (mc .mem) in
-      record {
-        at = omega (arith, getD-set-same (mc .regs .kept) fp (mc .regs .sp - w) 0 last);
-        bounded = omega arith;
-        whole = omega arith;
-        held = held;
-        slots = rw window (stores-saved w base cfa (mc .regs .kept) (length (mc .regs .kept)) (saved w fp offset fs) (mc .mem) whole held (spread w fp offset fs sound));
-        return = (
-          omega arith,
-          omega arith,
-          load-same w (cfa - w - base) (mc .mem) (prologue w base fp offset fs mc .mem)
-              (ap (part w (cfa - w - base)) window ∙ stores-other w base cfa (mc .regs .kept) (length (mc .regs .kept)) w (saved w fp offset fs) (mc .mem) (omega arith) held (off-return w fp offset fs sound)),
-        );
-        long = length-set (mc .regs .kept) fp (mc .regs .sp - w);
-        others = λ k u. getD-set-other (mc .regs .kept) fp k (mc .regs .sp - w) 0 (λ e. u .0 (sym e));
-        window = n;
-        above = λ p l. ap (part w p) window ∙ stores-above w base cfa (mc .regs .kept) (length (mc .regs .kept)) p (saved w fp offset fs) (mc .mem) l held;
-      }
+      let m : List ℕ = prologue w base fp offset fs mc .mem in
+      leaves w base cfa fp (mc .regs .sp - w) (saved w fp offset fs) (mc .regs) (prologue w base fp offset fs mc .regs) (mc .mem) m
+      last (omega arith) refl window held (spread w fp offset fs sound) whole (load w (cfa - w - base) (mc .mem)) (λ k u e. u .0 (sym e)) (omega arith)
+      (load-same w (cfa - w - base) (mc .mem) m
+      (ap (part w (cfa - w - base)) window ∙ stores-other w base cfa (mc .regs .kept) (length (mc .regs .kept)) w (saved w fp offset fs) (mc .mem) (omega arith) held (off-return w fp offset fs sound)))
+      t

@@ -5,16 +5,17 @@ use mathlib.Core.Path.{_≡_, refl, ap, sym, _∙_}
 use mathlib.Core.Logic.{inl}
 use mathlib.Core.List.{List, [], _∷_}
 use native.Mathlib.Omega.{arith}
-use lib.ListN.{length, getD, set, length-set}
-use lib.Seq.{getD-set-same, getD-set-other}
-use Rattle.frame.specs.Frame.{Slot, lowest}
-use Rattle.frame.specs.Memory.{bytes, part, store}
+use lib.ListN.{length, getD, set}
+use lib.Seq.{getD-set-other}
+use Rattle.frame.specs.Frame.{Regs, Slot, lowest}
+use Rattle.frame.specs.Memory.{store}
 use Rattle.frame.specs.Calls.{Machine, All, Apart, Spread, Held, stores, Ran}
 use Rattle.frame.specs.Pushes.{push}
 use Rattle.frame.specs.Fields.{copied}
 use Rattle.frame.specs.Downwards.{down, saved, frameBased, pushEach, prologue, frameless, lowered}
 use Rattle.frame.proofs.Slots.{load-of}
-use Rattle.frame.proofs.Stores.{all-map, all-both, lowest-all, length-stores, stores-above, stores-saved, stores-kept}
+use Rattle.frame.proofs.Pointed.{slots, leaves}
+use Rattle.frame.proofs.Stores.{all-map, all-both, lowest-all, stores-kept}
 
 -- the places are among n, and none is the frame pointer's
 abbrev pub Places : ℕ → ℕ → List ℕ → Type 0
@@ -99,22 +100,12 @@ module _ (w base fp lr : ℕ) (xs : List ℕ) (mc : Machine) (p : Places (length
   pub ran : getD (mc .regs .kept) lr 0 < 256 ^ w → base + length (mc .mem) < 256 ^ w
       → Ran w base (mc .regs .sp) (frameBased w fp lr xs) (mc .regs) (mc .mem) (getD (mc .regs .kept) lr 0) (prologue w base fp lr xs mc .regs) (prologue w base fp lr xs mc .mem)
   ran word t =
-      let n : length (prologue w base fp lr xs mc .mem) ≡ length (mc .mem) = ap length window ∙ length-stores w base cfa kept (saved w fp lr xs) (mc .mem) in
-      let s : All (λ (t : Slot). part w (cfa - t .below - base) (prologue w base fp lr xs mc .mem) ≡ bytes w (getD kept (t .reg) 0)) (saved w fp lr xs) =
-      rw window (stores-saved w base cfa kept (length kept) (saved w fp lr xs) (mc .mem) whole held (spread w w (lr ∷ fp ∷ xs))) in
-      let there : (k : ℕ) → getD (prologue w base fp lr xs mc .regs .kept) k 0 ≡ getD (set kept fp (cfa - w - w)) k 0 = λ k. ap (λ (l : List ℕ). getD l k 0) after in
-      record {
-        at = omega (arith, there fp, getD-set-same kept fp (cfa - w - w) 0 known, held .1 .0 .high);
-        bounded = omega arith;
-        whole = omega arith;
-        held = held;
-        slots = s;
-        return = (omega arith, held .0 .high, load-of w (cfa - w - base) (getD kept lr 0) (prologue w base fp lr xs mc .mem) word (s .0));
-        long = ap length after ∙ length-set kept fp (cfa - w - w);
-        others = λ k u. there k ∙ getD-set-other kept fp k (cfa - w - w) 0 (λ e. u .1 .0 (sym e));
-        window = n;
-        above = λ q l. ap (part w q) window ∙ stores-above w base cfa kept (length kept) q (saved w fp lr xs) (mc .mem) l held;
-      }
+      let b : base + (w + w) ≤ cfa = held .1 .0 .high in
+      let m : List ℕ = prologue w base fp lr xs mc .mem in
+      let r : Regs = prologue w base fp lr xs mc .regs in
+      let s = slots w base cfa fp (cfa - w - w) (saved w fp lr xs) (mc .regs) r (mc .mem) m known (omega arith) after window held (spread w w (lr ∷ fp ∷ xs)) whole in
+      leaves w base cfa fp (cfa - w - w) (saved w fp lr xs) (mc .regs) r (mc .mem) m known (omega arith) after window held (spread w w (lr ∷ fp ∷ xs)) whole
+      (getD kept lr 0) (λ k u e. u .1 .0 (sym e)) (held .0 .high) (load-of w (cfa - w - base) (getD kept lr 0) m word (s .0)) t
 
 -- the stack pointer lowered, nothing stored
 pub ran-lowered : (w base lr size : ℕ) (mc : Machine) → size ≤ mc .regs .sp → mc .regs .sp ≤ base + length (mc .mem) → base + length (mc .mem) < 256 ^ w

@@ -16,7 +16,7 @@ use Rattle.permutation.proofs.Flagged.{flag-says, free-of}
 use Rattle.permutation.proofs.Laws.{encode-cases}
 
 -- no member, and no place that has it
-member-not : (x : ℕ) (xs : List ℕ) → member x xs ≡ false → (i : ℕ) → i < length xs → x ≡ getD xs i 0 → ⊥
+pub member-not : (x : ℕ) (xs : List ℕ) → member x xs ≡ false → (i : ℕ) → i < length xs → x ≡ getD xs i 0 → ⊥
 member-not x [] m i h e = not-suc-le-zero h
 member-not x (y ∷ xs) m i h e = go (eqb x y) refl m i h e (member-not x xs)
   where
@@ -26,7 +26,7 @@ member-not x (y ∷ xs) m i h e = go (eqb x y) refl m i h e (member-not x xs)
     go false q k zero h e r = eqb-false x y q e
     go false q k (suc i) h e r = r k i (le-of-suc-le-suc h) e
 
-not-member : (x : ℕ) (xs : List ℕ) → ((i : ℕ) → i < length xs → x ≡ getD xs i 0 → ⊥) → member x xs ≡ false
+pub not-member : (x : ℕ) (xs : List ℕ) → ((i : ℕ) → i < length xs → x ≡ getD xs i 0 → ⊥) → member x xs ≡ false
 not-member x [] n = refl
 not-member x (y ∷ xs) n = simp (ne-eqb x y (n 0 (omega arith)), not-member x xs (λ i h. n (suc i) (omega arith)))
 

@@ -5,12 +5,12 @@ use native.Mathlib.Omega.{arith}
 use Rattle.permutation.specs.Permutation.{bounds}
 use Rattle.rules.specs.SoundX86 as x86
 use Rattle.rules.specs.SoundArm64 as arm64
-use Rattle.rules.proofs.FieldsX86.{passes-sound}
+use Rattle.rules.proofs.FieldsX86.{tested-sound}
 use Rattle.rules.proofs.ListsX86.{listOf, accepted-lists}
 
 -- rbx stored 8 below rbp
 pub frame-based-x86-64 : x86.Sound 0x01010001
-frame-based-x86-64 = x86.frameBased refl (passes-sound 0x01010001 (omega arith, omega arith, refl, tt))
+frame-based-x86-64 = x86.frameBased refl (tested-sound 0x01010001 refl)
 
 -- rbx and r12 pushed, 24 bytes
 pub frameless-x86-64 : x86.Sound 0x02030800

@@ -1,6 +1,6 @@
 -- The loop over the fields of a frame-based word: what holds at each turn.
 -- Assumes nothing.
-use Prim.Native.Nat.{ℕ, suc, _+_, _-_, _*_, _<_, _≤_}
+use Prim.Native.Nat.{ℕ, zero, suc, _+_, _-_, _*_, _<_, _≤_}
 use mathlib.Core.Path.{_≡_, ap, sym, _∙_}
 use mathlib.Core.List.{List, [], _∷_}
 use mathlib.Core.Bool.{Bool, cond, _&&_}
@@ -9,10 +9,19 @@ use borrow.Author.Tests.{lt-ltb, le-ltb, eq-eqb, ne-eqb}
 use lib.Dec.{ltb, eqb}
 use lib.ListN.{length, getD, set, drop}
 use lib.Seq.{drop-cons, drop-length}
-use Rattle.rules.specs.Answers.{numbered}
-use Rattle.rules.specs.RulesX86.{refusal, basedFrom}
+use Rattle.frame.specs.Frame.{register, slot}
+use Rattle.rules.specs.Answers.{numbered, Ruling}
+use Rattle.rules.specs.RulesX86.{refusal}
 
--- from field k on, the distances of those before it being ds, as from the start
+-- What the loop answers from field k on, the distances of the fields before it being ds: a register is named before if it has one.
+abbrev pub basedFrom : ℕ → ℕ → List ℕ → List ℕ → Ruling
+basedFrom offset k ds [] = record { refusal = numbered 0 0; anchor = register 5; distance = 16; return = slot 8; below = ds }
+basedFrom offset k ds (zero ∷ fs) = basedFrom offset (suc k) ds fs
+basedFrom offset k ds (suc f ∷ fs) =
+    let further : Ruling = basedFrom offset (suc k) (set ds f (16 + offset - 8 * k)) fs in
+    cond (ltb f 5 && ltb (8 * k) offset && eqb (getD ds f 0) 0) further (refusal (numbered 24 0))
+
+-- as from the start
 abbrev pub Turn : ℕ → List ℕ → List ℕ → List ℕ → ℕ → Type 0
 Turn offset first fs ds k = basedFrom offset 0 first fs ≡ basedFrom offset k ds (drop k fs)
 

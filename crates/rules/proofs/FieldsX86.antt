@@ -1,20 +1,26 @@
--- The fields of a frame-based word: the code's tests pass exactly at the sound words, and then give the frame's distances.
+-- The fields of a frame-based word: the loop's tests and the definition's are the same, and are passed exactly by the sound words.
 -- Assumes nothing.
 use Prim.Native.Nat.{ℕ, zero, suc, pred, _+_, _-_, _*_, _<_, _≤_}
 use mathlib.Core.Path.{_≡_, refl, ap, sym, _∙_}
-use mathlib.Core.Logic.{_⊎_, inl, inr}
+use mathlib.Core.Logic.{_⊎_, inl, inr, ⊎-elim}
+use mathlib.Core.Bool.{Bool, true, false, not, _&&_, _||_}
 use mathlib.Core.List.{List, [], _∷_}
 use native.Mathlib.Omega.{arith}
 use native.Mathlib.Nat.{zero-add, add-zero}
 use native.Mathlib.Decide.{decLt}
-use borrow.Author.Tests.{lt-ltb, le-ltb, eq-eqb, ne-eqb}
+use borrow.Author.Tests.{le-leb, lt-ltb, le-ltb, eq-eqb, ne-eqb, leb-true, ltb-true, not-true}
+use lib.Dec.{leb, ltb, eqb}
 use lib.ListN.{length, getD, set, replicate, length-set, getD-replicate}
 use lib.Seq.{getD-set-same, getD-set-other}
+use Rattle.permutation.specs.Permutation.{member}
+use Rattle.permutation.proofs.Tests.{both-left, both-right}
+use Rattle.permutation.proofs.Lists.{member-not, not-member}
 use Rattle.frame.specs.Frame.{register, slot, distances}
 use Rattle.frame.specs.Fields.{fieldSlots}
 use Rattle.frame.proofs.Fielded.{Fields}
 use Rattle.rules.specs.Answers.{numbered}
-use Rattle.rules.specs.RulesX86.{refusal, basedFrom}
+use Rattle.rules.specs.RulesX86.{refusal, fieldsSound, based}
+use Rattle.rules.proofs.Fielding.{basedFrom}
 use Rattle.rules.specs.SoundX86.{sizeOf, fieldOf, fieldsFrom, fieldsOf, FrameBased}
 
 -- the tests from field k on, the distances of those before it being ds
@@ -59,29 +65,36 @@ pub record Conditions (o k : ℕ) (ds fs : List ℕ) : Type 0 where
 later : (k j : ℕ) → suc k + j ≡ k + suc j
 later k j = omega arith
 
-pub conditions-pass : (o k : ℕ) (ds fs : List ℕ) → Conditions o k ds fs → Passes o k ds fs
-conditions-pass o k ds [] c = tt
-conditions-pass o k ds (zero ∷ fs) c =
-    conditions-pass o (suc k) ds fs
-    (record {
+-- of the fields further on
+rest-of : (o k : ℕ) (ds : List ℕ) (x : ℕ) (fs : List ℕ) → Conditions o k ds (x ∷ fs) → Conditions o (suc k) ds fs
+rest-of o k ds x fs c =
+    record {
       named = λ j l. c .named (suc j) (omega arith);
       inside = λ j l n. omega (arith, c .inside (suc j) (omega arith) n);
       once = λ i j l m. c .once (suc i) (suc j) (omega arith) (omega arith);
       fresh = λ j l. c .fresh (suc j) (omega arith);
-    })
+    }
+
+-- none of them being at a place either
+placed : (o k : ℕ) (ds : List ℕ) (i d : ℕ) (fs : List ℕ) → Conditions o k ds fs → ((j : ℕ) → j < length fs → (getD fs j 0 ≡ 0 → ⊥) → pred (getD fs j 0) ≡ i → ⊥)
+    → Conditions o k (set ds i d) fs
+placed o k ds i d fs c p =
+    record {
+      named = c .named;
+      inside = c .inside;
+      once = c .once;
+      fresh = λ j l n. getD-set-other ds i (pred (getD fs j 0)) d 0 (p j l n) ∙ c .fresh j l n;
+    }
+
+pub conditions-pass : (o k : ℕ) (ds fs : List ℕ) → Conditions o k ds fs → Passes o k ds fs
+conditions-pass o k ds [] c = tt
+conditions-pass o k ds (zero ∷ fs) c = conditions-pass o (suc k) ds fs (rest-of o k ds 0 fs c)
 conditions-pass o k ds (suc f ∷ fs) c = (
   omega (arith, c .named 0 (omega arith)),
   omega (arith, c .inside 0 (omega arith) (λ z. omega arith)),
   c .fresh 0 (omega arith) (λ z. omega arith),
   conditions-pass o (suc k) (set ds f (16 + o - 8 * k)) fs
-      (record {
-        named = λ j l. c .named (suc j) (omega arith);
-        inside = λ j l n. omega (arith, c .inside (suc j) (omega arith) n);
-        once = λ i j l m. c .once (suc i) (suc j) (omega arith) (omega arith);
-        fresh = λ j l n.
-            getD-set-other ds f (pred (getD fs j 0)) (16 + o - 8 * k) 0 (λ e. n (c .once 0 (suc j) (omega arith) (omega arith) (omega arith)))
-            ∙ c .fresh (suc j) (omega arith) n;
-      }),
+      (placed o (suc k) ds f (16 + o - 8 * k) fs (rest-of o k ds (suc f) fs c) (λ j l n e. n (c .once 0 (suc j) (omega arith) (omega arith) (omega arith)))),
 )
 
 -- conditions of the fields further on, and of the first
@@ -147,29 +160,80 @@ first = 0 ∷ 0 ∷ 0 ∷ 0 ∷ 0 ∷ 16 ∷ []
 first-none : (x : ℕ) → x < 5 → getD first x 0 ≡ 0
 first-none x h = getD-set-other (replicate 6 0) 5 x 16 0 (λ e. omega arith) ∙ getD-replicate 6 x 0 0 (omega arith)
 
+all-three : (x y z : Bool) → (x && y && z) ≡ true → (x ≡ true) × (y ≡ true) × (z ≡ true)
+all-three true true z t = (refl, refl, t)
+all-three true false z t = absurd (let q : _≡_ {A = ℕ} 0 1 = cc in omega arith)
+all-three false y z t = absurd (let q : _≡_ {A = ℕ} 0 1 = cc in omega arith)
+
+-- The definition's test is passed exactly under these conditions.
+pub sound-conditions : (o k : ℕ) (fs : List ℕ) → fieldsSound o k fs ≡ true → Conditions o k first fs
+sound-conditions o k [] t =
+    record { named = λ j l. absurd (omega arith); inside = λ j l n. absurd (omega arith); once = λ i j l m e. absurd (omega arith); fresh = λ j l n. absurd (omega arith) }
+sound-conditions o k (zero ∷ fs) t =
+    one-more o k first 0 fs (omega arith) (λ n. absurd (n refl)) (λ n. absurd (n refl)) (sound-conditions o (suc k) fs t) (λ j l e. sym e)
+sound-conditions o k (suc f ∷ fs) t =
+    let a : (leb (suc f) 5 && ltb (8 * k) o && not (member (suc f) fs)) ≡ true =
+    simp (ne-eqb (suc f) 0 (λ z. omega arith)) at (both-left (eqb (suc f) 0 || (leb (suc f) 5 && ltb (8 * k) o && not (member (suc f) fs))) (fieldsSound o (suc k) fs) t) in
+    let b = both-right (eqb (suc f) 0 || (leb (suc f) 5 && ltb (8 * k) o && not (member (suc f) fs))) (fieldsSound o (suc k) fs) t in
+    let p = all-three (leb (suc f) 5) (ltb (8 * k) o) (not (member (suc f) fs)) a in
+    let h : suc f ≤ 5 = leb-true (suc f) 5 (p .0) in
+    one-more o k first (suc f) fs h (λ n. ltb-true (8 * k) o (p .1)) (λ n. first-none f (omega arith)) (sound-conditions o (suc k) fs b)
+    (λ j l e. absurd (member-not (suc f) fs (not-true (member (suc f) fs) (p .2)) j l e))
+
+pub conditions-sound : (o k : ℕ) (ds fs : List ℕ) → Conditions o k ds fs → fieldsSound o k fs ≡ true
+conditions-sound o k ds [] c = refl
+conditions-sound o k ds (zero ∷ fs) c = conditions-sound o (suc k) ds fs (rest-of o k ds 0 fs c)
+conditions-sound o k ds (suc f ∷ fs) c =
+    simp (
+      ne-eqb (suc f) 0 (λ z. omega arith),
+      le-leb (suc f) 5 (c .named 0 (omega arith)),
+      lt-ltb (8 * k) o (omega (arith, c .inside 0 (omega arith) (λ z. omega arith))),
+      not-member (suc f) fs (λ j l e. let z = c .once 0 (suc j) (omega arith) (omega arith) e in omega (arith, z, e)),
+    )
+    (conditions-sound o (suc k) ds fs (rest-of o k ds (suc f) fs c))
+
+-- so the loop answers what the definition says
+pub loop-is : (o : ℕ) (fs : List ℕ) → basedFrom o 0 first fs ≡ based o fs
+loop-is o fs = go (fieldsSound o 0 fs) refl
+  where
+    go : (b : Bool) → fieldsSound o 0 fs ≡ b → basedFrom o 0 first fs ≡ based o fs
+    go true t =
+        let e : 16 + o - 8 * 0 ≡ 16 + o = omega arith in
+        (rw e at (passed o 0 first fs (conditions-pass o 0 first fs (sound-conditions o 0 fs t)))) ∙ simp t
+    go false t = ⊎-elim
+        (λ p. absurd (let z : _≡_ {A = Bool} true false = sym (conditions-sound o 0 first fs (passes-conditions o 0 first fs refl p)) ∙ t in let q : _≡_ {A = ℕ} 0 1 = cc in omega arith))
+        (λ e. e ∙ simp t)
+        (either o 0 first fs)
+
 module _ (w : ℕ) where
   at : (j : ℕ) → j < 5 → getD (fieldsOf w) j 0 ≡ fieldOf j w
   at j h = getD-fields 5 0 j w h ∙ ap (λ (i : ℕ). fieldOf i w) (zero-add j)
 
-  -- the tests pass exactly at the sound words
-  pub sound-passes : FrameBased w → Passes (sizeOf w) 0 first (fieldsOf w)
-  sound-passes s =
-      conditions-pass (sizeOf w) 0 first (fieldsOf w)
-      (record {
+  conditions : FrameBased w → Conditions (sizeOf w) 0 first (fieldsOf w)
+  conditions s =
+      record {
         named = λ j l. rw (at j l) (s .named j l);
         inside = λ j l n. omega (arith, s .inside j l (λ z. n (at j l ∙ z)));
         once = λ i j l m e. at j m ∙ s .once i j l m (sym (at i (omega arith)) ∙ e ∙ at j m);
         fresh = λ j l n. first-none (pred (getD (fieldsOf w) j 0)) (omega (arith, at j l, s .named j l));
-      })
+      }
 
-  pub passes-sound : Passes (sizeOf w) 0 first (fieldsOf w) → FrameBased w
-  passes-sound p =
-      let c = passes-conditions (sizeOf w) 0 first (fieldsOf w) refl p in
+  -- the test is passed exactly by the sound words
+  pub sound-tested : FrameBased w → fieldsSound (sizeOf w) 0 (fieldsOf w) ≡ true
+  sound-tested s = conditions-sound (sizeOf w) 0 first (fieldsOf w) (conditions s)
+
+  pub tested-sound : fieldsSound (sizeOf w) 0 (fieldsOf w) ≡ true → FrameBased w
+  tested-sound t =
+      let c = sound-conditions (sizeOf w) 0 (fieldsOf w) t in
       record {
         named = λ k h. rw (at k h) at (c .named k h);
         once = λ j k l h e. sym (at k h) ∙ c .once j k l h (at j (omega arith) ∙ e ∙ sym (at k h));
         inside = λ k h n. omega (arith, c .inside k h (λ z. n (sym (at k h) ∙ z)));
       }
+
+  -- and so are the loop's
+  pub sound-passes : FrameBased w → Passes (sizeOf w) 0 first (fieldsOf w)
+  sound-passes s = conditions-pass (sizeOf w) 0 first (fieldsOf w) (conditions s)
 
 -- where they pass, each slot lies below the frame pointer's: the offset is a multiple of 8
 pub passes-fields : (b k : ℕ) (ds fs : List ℕ) → Passes (8 * b) k ds fs → Fields 8 5 (16 + 8 * b - 8 * k) fs

@@ -2,7 +2,7 @@
 -- Assumes nothing.
 use Prim.Native.Nat.{ℕ, _+_, _-_, _*_, _≤_}
 use mathlib.Core.Path.{_≡_, refl, ap, sym, _∙_}
-use mathlib.Core.Logic.{_⊎_, inl, inr, ⊎-elim}
+use mathlib.Core.Logic.{_⊎_, inl, inr}
 use mathlib.Core.Bool.{Bool, true, false}
 use mathlib.Core.List.{List}
 use native.Mathlib.Omega.{arith}
@@ -22,11 +22,11 @@ use Rattle.frame.proofs.Fielded as fielded
 use Rattle.frame.proofs.Fielded.{Fields}
 use Rattle.rules.specs.Answers.{Number, numbered, Ruling, ruling}
 use Rattle.rules.specs.RulesX86 as rules
-use Rattle.rules.specs.RulesX86.{refusal, based, byWord, ruleOf}
+use Rattle.rules.specs.RulesX86.{refusal, fieldsSound, based, byWord, ruleOf}
 use Rattle.rules.specs.SoundX86.{sizeOf, fieldsOf, countOf, FrameBased, Listed, Sound, frameBased, frameless, Refused, null, dwarf, unrecognised, permutation, unsound, small, indirect, frameOf}
 use Rattle.rules.proofs.Pushing.{deep-eight}
 use Rattle.rules.proofs.ListsX86.{listOf, list-named, accepted-lists, lists-accepted, taken}
-use Rattle.rules.proofs.FieldsX86.{first, passed, either, sound-passes, passes-sound, passes-fields}
+use Rattle.rules.proofs.FieldsX86.{first, sound-passes, sound-tested, tested-sound, passes-fields}
 use Rattle.rules.proofs.SaysX86 as says
 use Rattle.rules.proofs.SaysX86.{Said, said, rule-of}
 
@@ -34,7 +34,7 @@ use Rattle.rules.proofs.SaysX86.{Said, said, rule-of}
 ruled : (w : ℕ) (t : Told) → parseOf w ≡ t → ruleOf w ≡ byWord (countOf w) (t .word) (t .saved)
 ruled w t p = sym (rule-of w t (sym p))
 
-based-rule : (w : ℕ) → kindOf w ≡ 1 → ruleOf w ≡ based (sizeOf w) (words.fields w)
+based-rule : (w : ℕ) → kindOf w ≡ 1 → ruleOf w ≡ based (sizeOf w) (fieldsOf w)
 based-rule w k = ruled w (record { word = words.frameBased (sizeOf w); saved = words.fields w }) (of-kind 1 w k)
 
 -- of a frameless word that lists xs
@@ -57,9 +57,7 @@ module _ (w : ℕ) (xs : List ℕ) (l : Listed w xs) where
 
 -- The rule of a sound word is its frame.
 pub sound-rule : (w : ℕ) (s : Sound w) → ruleOf w ≡ ruling 6 (frameOf w s)
-sound-rule w (frameBased k s) =
-    let e : 16 + sizeOf w - 8 * 0 ≡ 16 + sizeOf w = omega arith in
-    based-rule w k ∙ (rw e at (passed (sizeOf w) 0 first (fieldsOf w) (sound-passes w s)))
+sound-rule w (frameBased k s) = based-rule w k ∙ simp (sound-tested w s)
 sound-rule w (frameless xs k l r) = immediate-rule w xs l k ∙ simp (l .many, le-leb (8 + 8 * countOf w) (sizeOf w) r)
 
 no-list : (w : ℕ) → ((xs : List ℕ) → Listed w xs → ⊥) → accepts (countOf w) (bits 0 10 w) ≡ false
@@ -69,6 +67,13 @@ no-list w n = go (accepts (countOf w) (bits 0 10 w)) refl
     go true a = absurd (n (listOf w) (accepted-lists w a))
     go false a = refl
 
+not-tested : (w : ℕ) → (FrameBased w → ⊥) → fieldsSound (sizeOf w) 0 (fieldsOf w) ≡ false
+not-tested w n = go (fieldsSound (sizeOf w) 0 (fieldsOf w)) refl
+  where
+    go : (b : Bool) → fieldsSound (sizeOf w) 0 (fieldsOf w) ≡ b → b ≡ false
+    go true t = absurd (n (tested-sound w t))
+    go false t = refl
+
 -- The rule of any other word is its refusal.
 pub refused-rule : (w : ℕ) (n : Number) → Refused w n → ruleOf w ≡ refusal n
 refused-rule w n (null k) = ruled w _ (of-kind 0 w k)
@@ -77,7 +82,7 @@ refused-rule w n (unrecognised h) =
     ruled w _ (of-no-kind (kindOf w) w refl (λ z. omega arith) (λ z. omega arith) (λ z. omega arith) (λ z. omega arith) (λ z. omega arith))
 refused-rule w n (permutation (inl k) f) = ruled w _ (says.lists-not w _ (of-kind 2 w k) (no-list w f))
 refused-rule w n (permutation (inr k) f) = ruled w _ (says.lists-not w _ (of-kind 3 w k) (no-list w f))
-refused-rule w n (unsound k f) = based-rule w k ∙ ⊎-elim (λ p. absurd (f (passes-sound w p))) (λ e. e) (either (sizeOf w) 0 first (fieldsOf w))
+refused-rule w n (unsound k f) = based-rule w k ∙ simp (not-tested w f)
 refused-rule w n (small xs k l h) = immediate-rule w xs l k ∙ simp (l .many, lt-leb (8 + 8 * countOf w) (sizeOf w) h)
 refused-rule w n (indirect xs k l) = indirect-rule w xs l k
 
@@ -87,14 +92,15 @@ sound-or-refused w = go (said w)
   where
     go : Said w → Sound w ⊎ ((n : Number) × Refused w n)
     go (says.null k p) = inr (numbered 20 0, null k)
-    go (says.based k p) = ⊎-elim
-        (λ t. inl (frameBased k (passes-sound w t)))
-        (λ e. inr (
+    go (says.based k p) = by-fields (fieldsSound (sizeOf w) 0 (fieldsOf w)) refl
+      where
+        by-fields : (b : Bool) → fieldsSound (sizeOf w) 0 (fieldsOf w) ≡ b → Sound w ⊎ ((n : Number) × Refused w n)
+        by-fields true t = inl (frameBased k (tested-sound w t))
+        by-fields false t = inr (
           numbered 24 0,
           unsound k (λ s.
-              let z : _≡_ {A = ℕ} 0 24 = ap (λ (u : Ruling). u .refusal .number) (sym (passed (sizeOf w) 0 first (fieldsOf w) (sound-passes w s)) ∙ e) in omega arith),
-        ))
-        (either (sizeOf w) 0 first (fieldsOf w))
+              let z : _≡_ {A = Bool} true false = sym (sound-tested w s) ∙ t in let y : _≡_ {A = ℕ} 0 1 = cc in omega arith),
+        )
     go (says.immediate k a p) = by-room (decLe (8 + 8 * countOf w) (sizeOf w))
       where
         by-room : Dec (8 + 8 * countOf w ≤ sizeOf w) → Sound w ⊎ ((n : Number) × Refused w n)

@@ -1,7 +1,7 @@
 -- Two answers that conform to a contract are one answer, since what was told gives the answer back. (`number` and `value` give the answer
 -- itself.)
 -- Assumes nothing.
-use mathlib.Core.Path.{_≡_, refl, ap, sym, _∙_}
+use mathlib.Core.Path.{_≡_, refl, ap₂, sym, _∙_}
 use mathlib.Core.Bool.{cond}
 use mathlib.Mathlib.Logic.Function.Defs.{LeftInverse, LeftInverse·injective}
 use lib.Dec.{eqb}
@@ -52,6 +52,11 @@ wayArm64 : LeftInverse backRegister arm64.anchorTold
 wayArm64 CfaRegister.StackPointer = refl
 wayArm64 CfaRegister.FramePointer = refl
 
+-- an outcome and a register, told and given back, in whatever holds them
+given-back : {A : Type 0} (make : Outcome → CfaRegister → A) (told : CfaRegister → Anchor) → LeftInverse backRegister told → (o : Outcome) (c : CfaRegister)
+    → make (backOutcome (outcomeOf o)) (backRegister (told c)) ≡ make o c
+given-back make told way o c = ap₂ make (wayOutcome o) (way c)
+
 pub one-rule-x86-64 : (t : Ruling) (x y : «RuleX86_64») → x86.ruleTold x ≡ t → x86.ruleTold y ≡ t → x ≡ y
 one-rule-x86-64 t x y p q = LeftInverse·injective back x86.ruleTold way x y (p ∙ sym q)
   where
@@ -59,9 +64,7 @@ one-rule-x86-64 t x y p q = LeftInverse·injective back x86.ruleTold way x y (p 
     back u = record { outcome = backOutcome (u .refusal); «cfa_register» = backRegister (u .anchor); «cfa_distance» = u .distance; below = u .below }
 
     way : LeftInverse back x86.ruleTold
-    way u =
-        ap {B = «RuleX86_64»} (λ (o : Outcome). record { outcome = o; «cfa_register» = backRegister (x86.anchorTold (u .«cfa_register»)); «cfa_distance» = u .«cfa_distance»; below = u .below }) (wayOutcome (u .outcome))
-        ∙ ap {B = «RuleX86_64»} (λ (c : CfaRegister). record { outcome = u .outcome; «cfa_register» = c; «cfa_distance» = u .«cfa_distance»; below = u .below }) (wayX86 (u .«cfa_register»))
+    way u = given-back {A = «RuleX86_64»} (λ o c. record { outcome = o; «cfa_register» = c; «cfa_distance» = u .«cfa_distance»; below = u .below }) x86.anchorTold wayX86 (u .outcome) (u .«cfa_register»)
 
 pub one-rule-arm64 : (t : Ruling) (x y : «RuleArm64») → arm64.ruleTold x ≡ t → arm64.ruleTold y ≡ t → x ≡ y
 one-rule-arm64 t x y p q = LeftInverse·injective back arm64.ruleTold way x y (p ∙ sym q)
@@ -70,6 +73,4 @@ one-rule-arm64 t x y p q = LeftInverse·injective back arm64.ruleTold way x y (p
     back u = record { outcome = backOutcome (u .refusal); «cfa_register» = backRegister (u .anchor); «cfa_distance» = u .distance; below = u .below }
 
     way : LeftInverse back arm64.ruleTold
-    way u =
-        ap {B = «RuleArm64»} (λ (o : Outcome). record { outcome = o; «cfa_register» = backRegister (arm64.anchorTold (u .«cfa_register»)); «cfa_distance» = u .«cfa_distance»; below = u .below }) (wayOutcome (u .outcome))
-        ∙ ap {B = «RuleArm64»} (λ (c : CfaRegister). record { outcome = u .outcome; «cfa_register» = c; «cfa_distance» = u .«cfa_distance»; below = u .below }) (wayArm64 (u .«cfa_register»))
+    way u = given-back {A = «RuleArm64»} (λ o c. record { outcome = o; «cfa_register» = c; «cfa_distance» = u .«cfa_distance»; below = u .below }) arm64.anchorTold wayArm64 (u .outcome) (u .«cfa_register»)

@@ -1,15 +1,17 @@
 -- The rule of an opcode word of x86_64: document 01, "One frame, and its prologue".
 -- Assumes nothing.
-use Prim.Native.Nat.{ℕ, zero, suc, _+_, _-_, _*_}
+use Prim.Native.Nat.{ℕ, suc, _+_, _*_}
 use mathlib.Core.List.{List, [], _∷_}
-use mathlib.Core.Bool.{cond, _&&_}
+use mathlib.Core.Bool.{Bool, true, cond, not, _&&_, _||_}
 use lib.Dec.{leb, ltb, eqb}
-use lib.ListN.{length, getD, set, take, replicate}
+use lib.ListN.{length, take, replicate}
 use Rattle.opcodes.specs.Bits.{bits}
 use Rattle.opcodes.specs.WordsX86 as words
 use Rattle.opcodes.specs.WordsX86.{parseOf}
 use Rattle.frame.specs.Frame.{Anchor, stack, register, slot}
+use Rattle.permutation.specs.Permutation.{member}
 use Rattle.frame.specs.Pushes as pushes
+use Rattle.frame.specs.Fields as fields
 use Rattle.rules.specs.Answers.{Number, numbered, outcomeOf, Ruling, ruling}
 use Rattle.rules.specs.declared.CfaRegister.{CfaRegister}
 use Rattle.rules.specs.declared.«x86_64».«RuleX86_64».{«RuleX86_64»}
@@ -18,27 +20,23 @@ use Rattle.rules.specs.declared.«x86_64».«RuleX86_64».{«RuleX86_64�
 abbrev pub refusal : Number → Ruling
 refusal k = record { refusal = k; anchor = stack; distance = 0; return = slot 8; below = replicate 6 0 }
 
--- Frame-based, from field k on, the distances of the fields before it being `ds`. Field k, if not 0, is stored at CFA - 16 - offset + 8k; it
--- is at most 5, not named before, and 8k < offset.
-abbrev pub basedFrom : ℕ → ℕ → List ℕ → List ℕ → Ruling
-basedFrom offset k ds [] = record { refusal = numbered 0 0; anchor = register 5; distance = 16; return = slot 8; below = ds }
-basedFrom offset k ds (zero ∷ fs) = basedFrom offset (suc k) ds fs
-basedFrom offset k ds (suc f ∷ fs) =
-    let further : Ruling = basedFrom offset (suc k) (set ds f (16 + offset - 8 * k)) fs in
-    cond (ltb f 5 && ltb (8 * k) offset && eqb (getD ds f 0) 0) further (refusal (numbered 24 0))
+-- Fields from field k on are sound: each is 0, or it is at most 5, 8k < offset, and no later field is the same.
+abbrev pub fieldsSound : ℕ → ℕ → List ℕ → Bool
+fieldsSound offset k [] = true
+fieldsSound offset k (f ∷ fs) = (eqb f 0 || (leb f 5 && ltb (8 * k) offset && not (member f fs))) && fieldsSound offset (suc k) fs
 
--- rbp lies at CFA - 16.
+-- Frame-based: rbp at CFA - 16; field k, if not 0, at CFA - 16 - offset + 8k.
 abbrev pub based : ℕ → List ℕ → Ruling
-based offset fs = basedFrom offset 0 (0 ∷ 0 ∷ 0 ∷ 0 ∷ 0 ∷ 16 ∷ []) (take 5 fs)
+based offset fs = cond (fieldsSound offset 0 fs) (ruling 6 (fields.frameBased 8 5 offset fs)) (refusal (numbered 24 0))
 
 -- Frameless immediate: the registers pushed, the last at CFA - 16; the size has room for them and the return address.
 abbrev pub frameless : ℕ → List ℕ → Ruling
 frameless size xs = cond (leb (8 + 8 * length xs) size) (ruling 6 (pushes.frameless 8 size xs)) (refusal (numbered 24 0))
 
--- By what the word says, and bits 10 to 12, its count.
+-- By what the word says, and bits 10 to 12, its count. Of the six places of a frame-based word five are fields.
 abbrev pub byWord : ℕ → words.Word → List ℕ → Ruling
 byWord n words.null saved = refusal (numbered 20 0)
-byWord n (words.frameBased offset) saved = based offset saved
+byWord n (words.frameBased offset) saved = based offset (take 5 saved)
 byWord n (words.framelessImmediate size) saved = frameless size (take n saved)
 byWord n (words.framelessIndirect place adjust) saved = refusal (numbered 25 0)
 byWord n (words.dwarf low24) saved = refusal (numbered 21 low24)

@@ -59,7 +59,7 @@ fn refuse(why: Refusal) -> RuleX86_64
 // Field k, if not 0, names the register stored 8k above the lowest slot.
 fn frame_based(offset: u16, fields: [u8; 6]) -> RuleX86_64
     requires { ⌜ offset ≤ 2040 ⌝ }
-    ensures { λ r. ⌜ ruleTold r ≡ based offset fields ⌝ }
+    ensures { λ r. ⌜ ruleTold r ≡ based offset (take 5 fields) ⌝ }
 {
     let mut below = [0u16, 0, 0, 0, 0, 16];
     let mut k: usize = 0;

@@ -11,6 +11,7 @@ use mir.Syntax.{w8}
 use borrow.Kind.Array.{good-length, eInt}
 use lib.ListN.{length, getD, take}
 use lib.Seq.{getD-take, length-take-le}
+use Rattle.rules.proofs.FieldsX86.{loop-is}
 use Rattle.rules.proofs.Fielding.{Turn, skip, places, far, shallow, twice, end}
 use Rattle.rules.proofs.x86_64.frame_based.Statement.{statement}
 use Rattle.rules.proofs.x86_64.frame_based.Tie as tie
@@ -40,6 +41,7 @@ returns c =
     let a = i .before .before .args in
     let l = i .before .loop in
     c .refuse .ensures ∙ far (a .offset) (0 ∷ 0 ∷ 0 ∷ 0 ∷ 0 ∷ 16 ∷ []) (take 5 (a .t2)) (l .below) (l .k) (l .inv .1) (within i) (λ z. c .before .before .if1 .taken (sym (field i) ∙ z)) (rw (field i) (c .before .if2 .taken))
+    ∙ loop-is (a .offset) (take 5 (a .t2))
 
 returns-2 : tie.Need-returns-2 Inv-loop μ-loop
 returns-2 c =
@@ -47,6 +49,7 @@ returns-2 c =
     let a = i .before .before .args in
     let l = i .before .loop in
     c .refuse2 .ensures ∙ shallow (a .offset) (0 ∷ 0 ∷ 0 ∷ 0 ∷ 0 ∷ 16 ∷ []) (take 5 (a .t2)) (l .below) (l .k) (l .inv .1) (within i) (λ z. c .before .before .before .if1 .taken (sym (field i) ∙ z)) (rw (field i) (c .before .before .if2 .left)) (c .before .if3 .taken)
+    ∙ loop-is (a .offset) (take 5 (a .t2))
 
 returns-3 : tie.Need-returns-3 Inv-loop μ-loop
 returns-3 c =
@@ -54,6 +57,7 @@ returns-3 c =
     let a = i .before .before .args in
     let l = i .before .loop in
     c .refuse3 .ensures ∙ twice (a .offset) (0 ∷ 0 ∷ 0 ∷ 0 ∷ 0 ∷ 16 ∷ []) (take 5 (a .t2)) (l .below) (l .k) (l .inv .1) (within i) (λ z. c .before .before .before .before .if1 .taken (sym (field i) ∙ z)) (rw (field i) (c .before .before .before .if2 .left)) (c .before .before .if3 .left) (rw (field i) (c .before .if4 .taken))
+    ∙ loop-is (a .offset) (take 5 (a .t2))
 
 loop-again : tie.Need-loop-again Inv-loop μ-loop
 loop-again c =
@@ -74,7 +78,7 @@ returns-4 c =
     let a = c .before .before .args in
     let l = c .before .loop in
     let e : l .k ≡ length (take 5 (a .t2)) = omega (arith, size (c .before .before)) in
-    end (a .offset) (0 ∷ 0 ∷ 0 ∷ 0 ∷ 0 ∷ 16 ∷ []) (take 5 (a .t2)) (l .below) (rw e at (l .inv .1))
+    end (a .offset) (0 ∷ 0 ∷ 0 ∷ 0 ∷ 0 ∷ 16 ∷ []) (take 5 (a .t2)) (l .below) (rw e at (l .inv .1)) ∙ loop-is (a .offset) (take 5 (a .t2))
 
 pub frame-based-spec : {M : Type 1} → statement M
 frame-based-spec =
