@@ -1,9 +1,10 @@
 -- The loop that places the pushed registers: what holds at each turn.
 -- Assumes nothing.
 use Prim.Native.Nat.{ℕ, pred, suc, _+_, _-_, _*_, _<_, _≤_}
-use mathlib.Core.Path.{_≡_, refl, ap, sym, _∙_}
+use mathlib.Core.Path.{_≡_, refl, ap, ap₂, sym, _∙_}
 use mathlib.Core.List.{List, [], _∷_}
 use native.Mathlib.Omega.{arith}
+use native.Mathlib.Numerals.{add-one}
 use borrow.Author.Tests.{le-leb, lt-leb}
 use lib.ListN.{length, getD, set, drop, replicate, length-drop}
 use lib.Seq.{drop-cons, drop-length}
@@ -27,17 +28,18 @@ module _ (xs below : List ℕ) (i : ℕ) (p : Pushing xs below i) (h : i < lengt
   pub here : (0 < getD xs i 0) × (getD xs i 0 ≤ 6)
   here = let n = rw (drop-cons xs i 0 h) at (p .named) in (n .0, n .1)
 
-  pub next : Pushing xs (set below (getD xs i 0 - 1) (8 + 8 * (length xs - i))) (suc i)
-  next =
+  -- the register read, and what was written for it
+  pub next : (x v : ℕ) → x ≡ getD xs i 0 → v ≡ 8 + 8 * (length xs - i) → Pushing xs (set below (x - 1) v) (i + 1)
+  next x v q r =
       let n : Named 6 (getD xs i 0 ∷ drop (suc i) xs) = rw (drop-cons xs i 0 h) at (p .named) in
-      let e : pred (getD xs i 0) ≡ getD xs i 0 - 1 = omega arith in
-      let d : deep 8 (drop (suc i) xs) + 8 ≡ 8 + 8 * (length xs - i) = omega (arith, deep-eight (drop (suc i) xs), length-drop (suc i) xs) in
-      record {
+      let e : pred (getD xs i 0) ≡ x - 1 = omega arith in
+      let d : deep 8 (drop (suc i) xs) + 8 ≡ v = omega (arith, deep-eight (drop (suc i) xs), length-drop (suc i) xs) in
+      rw (add-one i)
+      (record {
         same = p .same ∙ ap (λ (l : List ℕ). distances below (pushed 8 l)) (drop-cons xs i 0 h)
-            ∙ ap (λ (k : ℕ). distances (set below k (deep 8 (drop (suc i) xs) + 8)) (pushed 8 (drop (suc i) xs))) e
-            ∙ ap (λ (k : ℕ). distances (set below (getD xs i 0 - 1) k) (pushed 8 (drop (suc i) xs))) d;
+            ∙ ap₂ (λ (k u : ℕ). distances (set below k u) (pushed 8 (drop (suc i) xs))) e d;
         named = n .2;
-      }
+      })
 
 pub end : (xs below : List ℕ) → Pushing xs below (length xs) → below ≡ distancesOf 6 (pushed 8 xs)
 end xs below p = sym (p .same ∙ ap (λ (l : List ℕ). distances below (pushed 8 l)) (drop-length xs))

@@ -12,7 +12,7 @@ use Rattle.frame.specs.Frame.{Regs, Return, anchored, inside, allInside, return
 use Rattle.rules.specs.Answers.{Ruling}
 use Rattle.rules.specs.RulesX86 as rulesX86
 use Rattle.rules.specs.RulesArm64 as rulesArm64
-use Rattle.step.specs.Steps.{Told, plain, stepBy}
+use Rattle.step.specs.Steps.{Told, valueless, stepBy}
 use Rattle.step.specs.StepsX86 as x86
 use Rattle.step.specs.StepsArm64 as arm64
 
@@ -31,7 +31,7 @@ slots-unchanged w base mem cfa ret ds r =
     (callerOf (λ (d : ℕ). load w (cfa - d - base) mem) cfa ret ds r) r (stepAt w base mem cfa ret ds r) refl
 
 -- the word's test before them
-word-tested : (a : Bool) (s : frame.Told) (t u : Told) (r : Regs) → u .regs ≡ r → ((s .number ≡ 0 → ⊥) → s .regs ≡ r) → t ≡ cond a (plain s) u
+word-tested : (a : Bool) (s : frame.Told) (t u : Told) (r : Regs) → u .regs ≡ r → ((s .number ≡ 0 → ⊥) → s .regs ≡ r) → t ≡ cond a (valueless s) u
     → (t .refusal .number ≡ 0 → ⊥) → t .regs ≡ r
 word-tested true s t u r q f e n = ap (λ (x : Told). x .regs) e ∙ f (λ z. n (ap (λ (x : Told). x .refusal .number) e ∙ z))
 word-tested false s t u r q f e n = ap (λ (x : Told). x .regs) e ∙ q

@@ -18,7 +18,7 @@ use Rattle.rules.specs.declared.Outcome.{Outcome}
 use Rattle.rules.specs.declared.CfaRegister.{CfaRegister}
 use Rattle.rules.specs.declared.«x86_64».«RuleX86_64».{«RuleX86_64»}
 use Rattle.rules.specs.declared.arm64.«RuleArm64».{«RuleArm64»}
-use Rattle.step.specs.Steps.{plain, stepBy}
+use Rattle.step.specs.Steps.{valueless, stepBy}
 use Rattle.step.specs.declared.«x86_64».«RegistersX86_64».{«RegistersX86_64»}
 use Rattle.step.specs.declared.arm64.«RegistersArm64».{«RegistersArm64»}
 use Rattle.step.specs.Slots.{anchorOf}
@@ -43,7 +43,7 @@ module _ (w : ℕ) (u : Ruling) (base : ℕ) (mem : List ℕ) (r : Regs) (o : Ou
       let n : eqb (u .refusal .number) 0 ≡ false = ap (λ (k : Number). eqb (k .number) 0) (sym e ∙ ap outcomeOf q) ∙ refused-number x in
       simp (n, e)
 
-  pub steps : o ≡ Outcome.Answered → plain (stepAt w base mem (anchored (u .anchor) r + u .distance) (u .return) (u .below) r) ≡ stepBy w u base mem r
+  pub steps : o ≡ Outcome.Answered → valueless (stepAt w base mem (anchored (u .anchor) r + u .distance) (u .return) (u .below) r) ≡ stepBy w u base mem r
   steps q =
       let n : eqb (u .refusal .number) 0 ≡ true = ap (λ (k : Number). eqb (k .number) 0) (sym e ∙ ap outcomeOf q) in
       simp n
@@ -59,10 +59,10 @@ module _ (word base : ℕ) (mem : List ℕ) (u : «RuleX86_64») (g : «Register
   refused-x86 x q = refuses 8 (x86.ruleOf word) base mem (stepsX86.regsTold g) (u .outcome) (ap (λ (v : Ruling). v .refusal) e) x q
 
   pub stepped-x86 : u .outcome ≡ Outcome.Answered → (anchor : ℕ) → anchor ≡ anchorOf (u .«cfa_register») (g .rsp) (getD (g .saved) 5 0)
-      → plain (stepAt 8 base mem (anchor + u .«cfa_distance») (slot 8) (u .below) (stepsX86.regsTold g)) ≡ stepsX86.stepOf word base mem (stepsX86.regsTold g)
+      → valueless (stepAt 8 base mem (anchor + u .«cfa_distance») (slot 8) (u .below) (stepsX86.regsTold g)) ≡ stepsX86.stepOf word base mem (stepsX86.regsTold g)
   unfolding stepsX86.stepOf
   stepped-x86 q anchor a =
-      ap (λ (k : ℕ). plain (stepAt 8 base mem (k + u .«cfa_distance») (slot 8) (u .below) (stepsX86.regsTold g))) (a ∙ in-x86 (u .«cfa_register»))
+      ap (λ (k : ℕ). valueless (stepAt 8 base mem (k + u .«cfa_distance») (slot 8) (u .below) (stepsX86.regsTold g))) (a ∙ in-x86 (u .«cfa_register»))
       ∙ steps 8 (x86.ruleTold u) base mem (stepsX86.regsTold g) (u .outcome) refl q
       ∙ ap (λ (v : Ruling). stepBy 8 v base mem (stepsX86.regsTold g)) e
     where
@@ -87,7 +87,7 @@ module _ (word base : ℕ) (mem : List ℕ) (u : «RuleArm64») (g : «Registers
   unfolding stepsArm64.stepOf
   refused-arm64 x q = refuses 8 (arm64.ruleOf word) base mem (stepsArm64.regsTold g) (u .outcome) (ap (λ (v : Ruling). v .refusal) e) x q
 
-  ruled : u .outcome ≡ Outcome.Answered → plain (stepAt 8 base mem (anchored (arm64.anchorTold (u .«cfa_register»)) (stepsArm64.regsTold g) + u .«cfa_distance») (arm64.returnTold (u .«cfa_register»)) (u .below) (stepsArm64.regsTold g))
+  ruled : u .outcome ≡ Outcome.Answered → valueless (stepAt 8 base mem (anchored (arm64.anchorTold (u .«cfa_register»)) (stepsArm64.regsTold g) + u .«cfa_distance») (arm64.returnTold (u .«cfa_register»)) (u .below) (stepsArm64.regsTold g))
       ≡ stepsArm64.stepOf word base mem (stepsArm64.regsTold g)
   unfolding stepsArm64.stepOf
   ruled q =
@@ -95,16 +95,16 @@ module _ (word base : ℕ) (mem : List ℕ) (u : «RuleArm64») (g : «Registers
       ∙ ap (λ (v : Ruling). stepBy 8 v base mem (stepsArm64.regsTold g)) e
 
   pub by-slots : u .outcome ≡ Outcome.Answered → u .«cfa_register» ≡ CfaRegister.FramePointer
-      → plain (stepAt 8 base mem (getD (g .saved) 10 0 + u .«cfa_distance») (slot 8) (u .below) (stepsArm64.regsTold g)) ≡ stepsArm64.stepOf word base mem (stepsArm64.regsTold g)
+      → valueless (stepAt 8 base mem (getD (g .saved) 10 0 + u .«cfa_distance») (slot 8) (u .below) (stepsArm64.regsTold g)) ≡ stepsArm64.stepOf word base mem (stepsArm64.regsTold g)
   by-slots q c =
-      ap (λ (k : CfaRegister). plain (stepAt 8 base mem (anchored (arm64.anchorTold k) (stepsArm64.regsTold g) + u .«cfa_distance») (arm64.returnTold k) (u .below) (stepsArm64.regsTold g))) (sym c)
+      ap (λ (k : CfaRegister). valueless (stepAt 8 base mem (anchored (arm64.anchorTold k) (stepsArm64.regsTold g) + u .«cfa_distance») (arm64.returnTold k) (u .below) (stepsArm64.regsTold g))) (sym c)
       ∙ ruled q
 
   pub by-link : u .outcome ≡ Outcome.Answered → u .«cfa_register» ≡ CfaRegister.StackPointer
-      → plain (stepAt 8 base mem (g .sp + u .«cfa_distance») (holds 11) (replicate 20 0) (stepsArm64.regsTold g)) ≡ stepsArm64.stepOf word base mem (stepsArm64.regsTold g)
+      → valueless (stepAt 8 base mem (g .sp + u .«cfa_distance») (holds 11) (replicate 20 0) (stepsArm64.regsTold g)) ≡ stepsArm64.stepOf word base mem (stepsArm64.regsTold g)
   by-link q c =
       let a : arm64.ruleOf word .anchor ≡ stack = sym (ap (λ (v : Ruling). v .anchor) e) ∙ ap arm64.anchorTold c in
       let n : replicate 20 0 ≡ u .below = sym (ap (λ (v : Ruling). v .below) e ∙ no-slots word a) in
-      ap (λ (ds : List ℕ). plain (stepAt 8 base mem (g .sp + u .«cfa_distance») (holds 11) ds (stepsArm64.regsTold g))) n
-      ∙ ap (λ (k : CfaRegister). plain (stepAt 8 base mem (anchored (arm64.anchorTold k) (stepsArm64.regsTold g) + u .«cfa_distance») (arm64.returnTold k) (u .below) (stepsArm64.regsTold g))) (sym c)
+      ap (λ (ds : List ℕ). valueless (stepAt 8 base mem (g .sp + u .«cfa_distance») (holds 11) ds (stepsArm64.regsTold g))) n
+      ∙ ap (λ (k : CfaRegister). valueless (stepAt 8 base mem (anchored (arm64.anchorTold k) (stepsArm64.regsTold g) + u .«cfa_distance») (arm64.returnTold k) (u .below) (stepsArm64.regsTold g))) (sym c)
       ∙ ruled q

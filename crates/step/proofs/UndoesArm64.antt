@@ -13,7 +13,7 @@ use Rattle.rules.specs.Answers.{Number, numbered, Ruling}
 use Rattle.rules.specs.RulesArm64.{ruleOf}
 use Rattle.rules.specs.SoundArm64.{sizeOf, listed, Sound, frameBased, frameless, Refused, frameOf, prologue, extent}
 use Rattle.rules.proofs.FramesArm64.{sound-rule, refused-rule, refused-number, listed-places}
-use Rattle.step.specs.Steps.{Told, regsOf, plain}
+use Rattle.step.specs.Steps.{Told, regsOf, valueless}
 use Rattle.step.specs.StepsArm64.{stepOf}
 use Rattle.step.proofs.Stepping.{refused-by}
 
@@ -32,7 +32,7 @@ pub undoes : (w : ℕ) (s : Sound w) (base : ℕ) (mc : Machine) → Entered 8 2
 unfolding stepOf
 undoes w s base mc en r m body =
     simp (sound-rule w s)
-    (ap plain
+    (ap valueless
     (undo 8 base (mc .regs .sp) (frameOf w s) (mc .regs) (getD (mc .regs .kept) 11 0) (prologue w s base mc .regs) r (prologue w s base mc .mem) m (mc .mem)
     (en .words) (omega arith) (ran w s base mc en) body 20 (en .many)))
 

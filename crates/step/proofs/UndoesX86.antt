@@ -15,7 +15,7 @@ use Rattle.rules.specs.RulesX86.{ruleOf}
 use Rattle.rules.specs.SoundX86.{sizeOf, fieldsOf, Sound, frameBased, frameless, Refused, frameOf, prologue, extent}
 use Rattle.rules.proofs.ListsX86.{list-named}
 use Rattle.rules.proofs.FramesX86.{sound-rule, refused-rule, refused-number, room, based-fields}
-use Rattle.step.specs.Steps.{Told, regsOf, plain}
+use Rattle.step.specs.Steps.{Told, regsOf, valueless}
 use Rattle.step.specs.StepsX86.{stepOf}
 use Rattle.step.proofs.Stepping.{refused-by}
 
@@ -37,7 +37,7 @@ undoes w s base mc en r m body =
     let cfa : ℕ = mc .regs .sp + 8 in
     let z : cfa - 8 - base ≡ mc .regs .sp - base = omega arith in
     simp (sound-rule w s)
-    (ap plain
+    (ap valueless
     (rw z at
     (undo 8 base cfa (frameOf w s) (mc .regs) (load 8 (cfa - 8 - base) (mc .mem)) (prologue w s base mc .regs) r (prologue w s base mc .mem) m (mc .mem)
     (en .words) (omega arith) (ran w s base mc en) body 6 (en .many))))

@@ -17,12 +17,12 @@ abbrev pub regsOf : ℕ → ℕ → List ℕ → Regs
 regsOf pc sp kept = record { pc = pc; sp = sp; kept = kept }
 
 -- 26 and 27 carry nothing.
-abbrev pub plain : frame.Told → Told
-plain t = record { refusal = numbered (t .number) 0; regs = t .regs }
+abbrev pub valueless : frame.Told → Told
+valueless t = record { refusal = numbered (t .number) 0; regs = t .regs }
 
 -- One step by a rule, over slots of w bytes: a word without a rule is refused first, then 26, then 27.
 abbrev pub stepBy : ℕ → Ruling → ℕ → List ℕ → Regs → Told
 stepBy w u base mem r =
     cond (eqb (u .refusal .number) 0)
-    (plain (stepAt w base mem (anchored (u .anchor) r + u .distance) (u .return) (u .below) r))
+    (valueless (stepAt w base mem (anchored (u .anchor) r + u .distance) (u .return) (u .below) r))
     (record { refusal = u .refusal; regs = r })

@@ -3,7 +3,7 @@ ghost use mathlib.Core.Path.{_≡_};
 ghost use Prim.Native.Nat.{_+_};
 ghost use lib.ListN.{getD, replicate};
 ghost use Rattle.frame.specs.Frame.{slot, holds, stepAt};
-ghost use Rattle.step.specs.Steps.{plain};
+ghost use Rattle.step.specs.Steps.{valueless};
 ghost use Rattle.step.specs.StepsArm64.{stepOf, regsTold, stepTold};
 use crate::slots::Cfa;
 use crate::slots::find_cfa;
@@ -54,7 +54,7 @@ fn by_slots(
     base: u64,
     window: &[u8],
 ) -> SteppedArm64
-    ensures { λ r. ⌜ stepTold r ≡ plain (stepAt 8 base (now (window .entry)) (getD (registers .saved) 10 0 + distance) (slot 8) below (regsTold registers)) ⌝ }
+    ensures { λ r. ⌜ stepTold r ≡ valueless (stepAt 8 base (now (window .entry)) (getD (registers .saved) 10 0 + distance) (slot 8) below (regsTold registers)) ⌝ }
 {
     let distances = below;
     let mut saved = registers.saved;
@@ -83,7 +83,7 @@ fn by_slots(
 
 // The return address is in x30, and no slot is read.
 fn by_link(distance: u64, registers: RegistersArm64, base: u64, window: &[u8]) -> SteppedArm64
-    ensures { λ r. ⌜ stepTold r ≡ plain (stepAt 8 base (now (window .entry)) (registers .sp + distance) (holds 11) (replicate 20 0) (regsTold registers)) ⌝ }
+    ensures { λ r. ⌜ stepTold r ≡ valueless (stepAt 8 base (now (window .entry)) (registers .sp + distance) (holds 11) (replicate 20 0) (regsTold registers)) ⌝ }
 {
     let len = window.len();
     let Cfa::At(cfa) = find_cfa(0xffff_ffff_ffff_ffff, base, len, registers.sp, distance) else {

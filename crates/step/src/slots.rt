@@ -5,7 +5,7 @@ ghost use Prim.Native.Nat.{ℕ, _+_, _-_, _^_, _≤_};
 ghost use lib.ListN.{length};
 ghost use Rattle.frame.specs.Memory.{load};
 ghost use Rattle.frame.specs.Frame.{inside, allInside, restored, slot, stepAt};
-ghost use Rattle.step.specs.Steps.{regsOf, plain};
+ghost use Rattle.step.specs.Steps.{regsOf, valueless};
 ghost use Rattle.step.specs.Slots.{anchorOf, cfaOf, spotOf, landing};
 use rules::CfaRegister;
 use rules::Outcome;
@@ -145,7 +145,7 @@ pub(crate) fn step_slots(
     kept: &mut [u64],
 ) -> Landed
     requires { ⌜ (width ≤ 8) × (top + 1 ≡ 256 ^ width) × (length (now kept) ≡ length (now below)) ⌝ }
-    ensures { λ r. ⌜ landing r (now (kept .exit)) ≡ plain (stepAt width base (now (window .entry)) (anchor + distance) (slot width) (now (below .entry)) (regsOf pc sp (now (kept .entry)))) ⌝ }
+    ensures { λ r. ⌜ landing r (now (kept .exit)) ≡ valueless (stepAt width base (now (window .entry)) (anchor + distance) (slot width) (now (below .entry)) (regsOf pc sp (now (kept .entry)))) ⌝ }
 {
     let len = window.len();
     let Cfa::At(cfa) = find_cfa(top, base, len, anchor, distance) else {

@@ -1,9 +1,8 @@
 -- `rules::x86_64::pushes` meets its contract: each turn places one more register, and the last lies next to the return address.
 -- Assumes nothing.
 use Prim.Native.Nat.{_+_, _-_, _*_, _<_, _≤_}
-use mathlib.Core.Path.{_≡_}
+use mathlib.Core.Path.{_≡_, sym}
 use native.Mathlib.Omega.{arith}
-use native.Mathlib.Numerals.{add-one}
 use borrow.Author.Needs.{needs}
 use mir.Syntax.{w8}
 use borrow.Kind.Array.{good-length, eInt}
@@ -52,8 +51,7 @@ loop-again c =
     let a = c .before .before .args in
     let l = c .before .loop in
     let n = size (c .before .before) in
-    let v : 8 + 8 * (a .count - l .i) ≡ 8 + 8 * (length (take (a .count) (a .t2)) - l .i) = omega (arith, n) in
-    (omega arith, rw (add-one, v, ← turn c .0) (next (take (a .count) (a .t2)) (l .below) (l .i) (l .inv .1) (omega (arith, n))))
+    (omega arith, next (take (a .count) (a .t2)) (l .below) (l .i) (l .inv .1) (omega (arith, n)) _ _ (sym (turn c .0)) (omega (arith, n)))
 
 returns : tie.Need-returns Inv-loop μ-loop
 returns c =

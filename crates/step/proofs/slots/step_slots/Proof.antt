@@ -9,7 +9,7 @@ use denote.Ref.{now}
 use Rattle.frame.specs.Memory.{load}
 use Rattle.frame.specs.Frame.{slot}
 use Rattle.rules.specs.Answers.{numbered}
-use Rattle.step.specs.Steps.{Told, regsOf, plain}
+use Rattle.step.specs.Steps.{Told, regsOf, valueless}
 use Rattle.step.specs.Slots.{landing}
 use Rattle.step.specs.declared.slots.Landed.{Landed}
 use Rattle.step.proofs.Spots.{found, missed, room}
@@ -24,7 +24,7 @@ returns c =
     let a = s .args in
     let r = regsOf (a .pc) (a .sp) (now (a .kept)) in
     ap (λ (l : Landed). landing l (now (a .kept))) (c .refused .ensures)
-    ∙ ap plain (above (a .width) (a .top) (a .base) (now (a .window)) (a .anchor) (a .distance) (slot (a .width)) (now (a .below)) r (s .pre .1) (sym (c .before .enum-told .given .1) ∙ c .before .before .before .find-cfa .ensures))
+    ∙ ap valueless (above (a .width) (a .top) (a .base) (now (a .window)) (a .anchor) (a .distance) (slot (a .width)) (now (a .below)) r (s .pre .1) (sym (c .before .enum-told .given .1) ∙ c .before .before .before .find-cfa .ensures))
 
 returns-2 : tie.Need-returns-2
 returns-2 c =
@@ -33,7 +33,7 @@ returns-2 c =
     let r = regsOf (a .pc) (a .sp) (now (a .kept)) in
     let cfa = c .before .before .before .before .before .cfa .given .0 .0 in
     ap (λ (l : Landed). landing l (now (a .kept))) (c .refused2 .ensures)
-    ∙ ap plain (no-return (a .width) (a .top) (a .base) (now (a .window)) (a .anchor) (a .distance) (slot (a .width)) (now (a .below)) r (s .pre .1) cfa (sym (c .before .before .before .before .before .cfa .given .1) ∙ c .before .before .before .before .before .before .before .find-cfa .ensures)
+    ∙ ap valueless (no-return (a .width) (a .top) (a .base) (now (a .window)) (a .anchor) (a .distance) (slot (a .width)) (now (a .below)) r (s .pre .1) cfa (sym (c .before .before .before .before .before .cfa .given .1) ∙ c .before .before .before .before .before .before .before .find-cfa .ensures)
     (missed (a .width) (a .base) (length (now (a .window))) cfa (a .width) (sym (c .before .enum-told2 .given .1) ∙ c .before .before .before .find-slot .ensures)))
 
 load-all-requires : tie.Need-load-all-requires
@@ -61,7 +61,7 @@ returns-3 c =
     let pc : c .load-slot .result ≡ load (a .width) (cfa - a .width - a .base) (now (a .window)) =
     c .load-slot .ensures ∙ ap (λ (k : ℕ). load (a .width) k (now (a .window))) (f .1) in
     ap₂ {C = Told} (λ (x : ℕ) (ks : List ℕ). record { refusal = numbered 0 0; regs = regsOf x cfa ks }) pc (c .before .before .before .load-all .ensures)
-    ∙ ap plain (all-read (a .width) (a .top) (a .base) (now (a .window)) (a .anchor) (a .distance) (slot (a .width)) (now (a .below)) r (s .pre .1) cfa (sym (c .before .before .before .before .before .before .before .before .before .before .before .before .cfa .given .1) ∙ c .before .before .before .before .before .before .before .before .before .before .before .before .before .before .find-cfa .ensures) (f .0) (sym (c .before .before .before .before .before .before .all-inside .ensures) ∙ c .before .before .before .before .before .if1 .taken))
+    ∙ ap valueless (all-read (a .width) (a .top) (a .base) (now (a .window)) (a .anchor) (a .distance) (slot (a .width)) (now (a .below)) r (s .pre .1) cfa (sym (c .before .before .before .before .before .before .before .before .before .before .before .before .cfa .given .1) ∙ c .before .before .before .before .before .before .before .before .before .before .before .before .before .before .find-cfa .ensures) (f .0) (sym (c .before .before .before .before .before .before .all-inside .ensures) ∙ c .before .before .before .before .before .if1 .taken))
 
 returns-4 : tie.Need-returns-4
 returns-4 c =
@@ -69,7 +69,7 @@ returns-4 c =
     let a = s .args in
     let r = regsOf (a .pc) (a .sp) (now (a .kept)) in
     ap (λ (l : Landed). landing l (now (a .kept))) (c .refused3 .ensures)
-    ∙ ap plain (no-slot (a .width) (a .top) (a .base) (now (a .window)) (a .anchor) (a .distance) (slot (a .width)) (now (a .below)) r (s .pre .1) (c .before .before .before .before .before .before .before .before .cfa .given .0 .0) (sym (c .before .before .before .before .before .before .before .before .cfa .given .1) ∙ c .before .before .before .before .before .before .before .before .before .before .find-cfa .ensures) (sym (c .before .before .all-inside .ensures) ∙ c .before .if1 .left))
+    ∙ ap valueless (no-slot (a .width) (a .top) (a .base) (now (a .window)) (a .anchor) (a .distance) (slot (a .width)) (now (a .below)) r (s .pre .1) (c .before .before .before .before .before .before .before .before .cfa .given .0 .0) (sym (c .before .before .before .before .before .before .before .before .cfa .given .1) ∙ c .before .before .before .before .before .before .before .before .before .before .find-cfa .ensures) (sym (c .before .before .all-inside .ensures) ∙ c .before .if1 .left))
 
 pub step-slots-spec : {M : Type 1} → statement M
 step-slots-spec =
