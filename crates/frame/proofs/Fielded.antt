@@ -1,6 +1,6 @@
 -- The prologue with a frame pointer and fields leaves its frame.
 -- Assumes nothing.
-use Prim.Native.Nat.{ℕ, zero, suc, _+_, _-_, _^_, _<_, _≤_}
+use Prim.Native.Nat.{ℕ, zero, suc, _+_, _-_, _^_, _<_, _≤_, max}
 use mathlib.Core.Path.{_≡_, refl, ap, sym, _∙_}
 use mathlib.Core.Logic.{inl, inr}
 use mathlib.Core.List.{List, [], _∷_}
@@ -10,7 +10,7 @@ use lib.Seq.{getD-set-other}
 use Rattle.frame.specs.Memory.{part, load, store}
 use Rattle.frame.specs.Frame.{Slot, lowest}
 use Rattle.frame.specs.Calls.{Machine, All, Apart, Spread, Held, stores, Ran}
-use Rattle.frame.specs.Fields.{fieldSlots, saved, frameBased, prologue}
+use Rattle.frame.specs.Fields.{fieldSlots, saved, frameBased, storeFields, prologue}
 use Rattle.frame.proofs.Slots.{load-same}
 use Rattle.frame.proofs.Pointed.{leaves}
 use Rattle.frame.proofs.Stores.{all-map, all-both, lowest-all, stores-other, stores-kept}
@@ -60,8 +60,33 @@ off-return w fp offset fs sound = (
       (fields-in w fp (w + w + offset) fs sound),
 )
 
+both-above : (base cfa a b : ℕ) → base + max a b ≤ cfa → (base + a ≤ cfa) × (base + b ≤ cfa)
+both-above base cfa a b h = (omega arith, omega arith)
+
+-- CFA - low + up is low - up below CFA
+same-place : (w base cfa low up : ℕ) → 0 < w → w + w + w ≤ low - up → base + (low - up) ≤ cfa → cfa + up - low - base ≡ cfa - (low - up) - base
+same-place w base cfa low up p h t =
+    let e : cfa + up - low ≡ cfa - (low - up) = omega arith in
+    ap (λ (a : ℕ). a - base) e
+
+next-up : (low up w : ℕ) → low - up - w ≡ low - (up + w)
+next-up low up w = omega arith
+
+-- the fields' stores are those of their slots
+stored : (w base cfa fp low up : ℕ) (kept fs m : List ℕ) → 0 < w → Fields w fp (low - up) fs → base + lowest (fieldSlots w (low - up) fs) ≤ cfa
+    → storeFields w base cfa low up kept fs m ≡ stores w base cfa kept (fieldSlots w (low - up) fs) m
+stored w base cfa fp low up kept [] m wide g h = refl
+stored w base cfa fp low up kept (zero ∷ fs) m wide g h =
+    let e : low - up - w ≡ low - (up + w) = next-up low up w in
+    rw e (stored w base cfa fp low (up + w) kept fs m wide (rw e at g) (rw e at h))
+stored w base cfa fp low up kept (suc f ∷ fs) m wide g h =
+    let t = both-above base cfa (low - up) (lowest (fieldSlots w (low - up - w) fs)) h in
+    let e : low - up - w ≡ low - (up + w) = next-up low up w in
+    let q = same-place w base cfa low up wide (g .1) (t .0) in
+    rw (e, q) (stored w base cfa fp low (up + w) kept fs (store w (cfa - (low - up) - base) (getD kept f 0) m) wide (rw e at (g .2)) (rw e at (t .1)))
+
 module _ (w base cfa fp offset : ℕ) (fs : List ℕ) (mc : Machine) (entry : mc .regs .sp + w ≡ cfa) (whole : cfa ≤ base + length (mc .mem))
-    (sound : Fields w fp (w + w + offset) fs) (low : base + lowest (saved w fp offset fs) ≤ cfa) (last : fp < length (mc .regs .kept)) where
+    (wide : 0 < w) (sound : Fields w fp (w + w + offset) fs) (low : base + lowest (saved w fp offset fs) ≤ cfa) (last : fp < length (mc .regs .kept)) where
   inner : All (Between w fp (w + w + offset)) (fieldSlots w (w + w + offset) fs)
   inner = fields-in w fp (w + w + offset) fs sound
 
@@ -74,16 +99,18 @@ module _ (w base cfa fp offset : ℕ) (fs : List ℕ) (mc : Machine) (entry : mc
         (lowest-all base cfa (saved w fp offset fs) low .1)),
   )
 
-  -- the prologue's window is that of the slots' stores
+  -- the prologue's window is that of the slots' stores, with the registers as at entry
   window : prologue w base fp offset fs mc .mem ≡ stores w base cfa (mc .regs .kept) (saved w fp offset fs) (mc .mem)
   window =
       let b : base + (w + w) ≤ cfa = held .0 .high in
       let q : mc .regs .sp - w - base ≡ cfa - (w + w) - base = omega arith in
+      let z : w + w + offset - 0 ≡ w + w + offset = omega arith in
+      let kept : List ℕ = set (mc .regs .kept) fp (mc .regs .sp - w) in
+      let m : List ℕ = store w (cfa - (w + w) - base) (getD (mc .regs .kept) fp 0) (mc .mem) in
       rw (entry, q)
-      (stores-kept w base cfa (set (mc .regs .kept) fp (mc .regs .sp - w)) (mc .regs .kept) (fieldSlots w (w + w + offset) fs)
-      (store w (cfa - (w + w) - base) (getD (mc .regs .kept) fp 0) (mc .mem))
-      (all-map (Between w fp (w + w + offset))
-      (λ (s : Slot). getD (set (mc .regs .kept) fp (mc .regs .sp - w)) (s .reg) 0 ≡ getD (mc .regs .kept) (s .reg) 0)
+      ((rw z at (stored w base cfa fp (w + w + offset) 0 kept fs m wide (rw z sound) (rw z (omega arith))))
+      ∙ stores-kept w base cfa kept (mc .regs .kept) (fieldSlots w (w + w + offset) fs) m
+      (all-map (Between w fp (w + w + offset)) (λ (s : Slot). getD kept (s .reg) 0 ≡ getD (mc .regs .kept) (s .reg) 0)
       (λ s i. getD-set-other (mc .regs .kept) fp (s .reg) (mc .regs .sp - w) 0 (λ e. omega (arith, i .2)))
       (fieldSlots w (w + w + offset) fs) inner))
 

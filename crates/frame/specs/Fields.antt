@@ -2,9 +2,10 @@
 -- Assumes nothing.
 use Prim.Native.Nat.{ℕ, zero, suc, _+_, _-_}
 use mathlib.Core.List.{List, [], _∷_}
-use lib.ListN.{set}
+use lib.ListN.{getD, set}
+use Rattle.frame.specs.Memory.{store}
 use Rattle.frame.specs.Frame.{Slot, register, slot, Frame}
-use Rattle.frame.specs.Calls.{Machine, stores}
+use Rattle.frame.specs.Calls.{Machine}
 use Rattle.frame.specs.Pushes.{push}
 
 -- the slots of fields, the first starting `top` below CFA and each next one a slot higher; a field 0 stores nothing
@@ -24,11 +25,14 @@ frameBased w fp offset fs = record { anchor = register fp; distance = w + w; ret
 abbrev pub copied : ℕ → Machine → Machine
 copied fp mc = record { regs = record { pc = mc .regs .pc; sp = mc .regs .sp; kept = set (mc .regs .kept) fp (mc .regs .sp) }; mem = mc .mem }
 
--- Push the frame pointer, copy the stack pointer to it, store the fields. At entry the stack pointer is CFA - w.
+-- The fields stored: each that is not 0 at CFA - low + up, where up grows by a slot from field to field.
+abbrev pub storeFields : ℕ → ℕ → ℕ → ℕ → ℕ → List ℕ → List ℕ → List ℕ → List ℕ
+storeFields w base cfa low up kept [] m = m
+storeFields w base cfa low up kept (zero ∷ fs) m = storeFields w base cfa low (up + w) kept fs m
+storeFields w base cfa low up kept (suc f ∷ fs) m = storeFields w base cfa low (up + w) kept fs (store w (cfa + up - low - base) (getD kept f 0) m)
+
+-- Push the frame pointer, copy the stack pointer to it, store the fields, the first 2w + offset below CFA. At entry the stack pointer is CFA - w.
 abbrev pub prologue : ℕ → ℕ → ℕ → ℕ → List ℕ → Machine → Machine
 prologue w base fp offset fs mc =
     let set-up : Machine = copied fp (push w base fp mc) in
-    record {
-      regs = set-up .regs;
-      mem = stores w base (mc .regs .sp + w) (set-up .regs .kept) (fieldSlots w (w + w + offset) fs) (set-up .mem);
-    }
+    record { regs = set-up .regs; mem = storeFields w base (mc .regs .sp + w) (w + w + offset) 0 (set-up .regs .kept) fs (set-up .mem) }

@@ -23,7 +23,7 @@ use Rattle.step.proofs.Stepping.{refused-by}
 ran : (w : ℕ) (s : Sound w) (base : ℕ) (mc : Machine) → Entered 8 6 base (mc .regs .sp + 8) (extent w s) mc
     → Ran 8 base (mc .regs .sp + 8) (frameOf w s) (mc .regs) (mc .mem) (load 8 (mc .regs .sp + 8 - 8 - base) (mc .mem)) (prologue w s base mc .regs) (prologue w s base mc .mem)
 ran w (frameBased k s) base mc en =
-    fielded.ran 8 base (mc .regs .sp + 8) 5 (sizeOf w) (fieldsOf w) mc refl (en .high) (based-fields w s) (en .low) (omega (arith, en .many)) (en .top)
+    fielded.ran 8 base (mc .regs .sp + 8) 5 (sizeOf w) (fieldsOf w) mc refl (en .high) (omega arith) (based-fields w s) (en .low) (omega (arith, en .many)) (en .top)
 ran w (frameless xs k l r) base mc en =
     pushed.ran 8 base (mc .regs .sp + 8) mc refl (en .high) (sizeOf w) xs (rw (en .many) (list-named w xs l)) (room w xs l r) (en .low) (en .top)
 
