@@ -1,12 +1,14 @@
 -- What the lookup's code knows at each return, on plain values.
 -- Assumes nothing.
-use Prim.Native.Nat.{ℕ, _+_, _-_, _*_, _≤_, _<_}
+use Prim.Native.Nat.{ℕ, suc, _+_, _-_, _*_, _≤_, _<_}
 use mathlib.Core.Path.{_≡_, ap, sym, _∙_}
 use mathlib.Core.Bool.{Bool}
 use mathlib.Core.List.{List}
 use native.Mathlib.Omega.{arith}
+use borrow.Author.Tests.{eq-eqb, ne-eqb}
 use lib.ListN.{length, take, drop, length-take}
 use Rattle.reader.specs.Reader.{partOf}
+use Rattle.reader.proofs.Laws.{tail, fits}
 use Rattle.search.specs.declared.Spot.{Spot}
 use Rattle.search.specs.declared.Layout.{Layout}
 use Rattle.search.specs.Search.{sizeOf, countOf, keyOf, searchOf}
@@ -17,13 +19,13 @@ use Rattle.raw.specs.declared.Opened.{Opened}
 use Rattle.raw.specs.declared.Error.{Error}
 use Rattle.raw.specs.Checked.{Checked, good, numberOf}
 use Rattle.raw.specs.Raw.{globalsOf, pagesOf, firstIn, offsetIn, pageOf, localsGranted, layout, pageTold}
-use Rattle.raw.proofs.Opens.{starts-inside}
+use Rattle.raw.proofs.Opens.{starts-inside, functions-granted}
 use Rattle.entries.specs.declared.Function.{Function}
 use Rattle.entries.specs.Entries.{functionsOf, localsOf, functionIn, functionOf}
 use Rattle.entries.specs.Section.{firstOf, offsetOf, pageAt, functionAt}
-use Rattle.entries.proofs.Places.{first-is, next-is, offset-is, page-is}
+use Rattle.lookup.specs.Searched.{foundIn, searchedIn}
 use Rattle.lookup.specs.Lookup.{Looked, nothing, refusal, telling, fromSpot, fromPage, atPage, fromPages, lookupOf}
-use Rattle.lookup.proofs.Steps.{no-page, last-page, a-page, no-function, a-function}
+use Rattle.lookup.proofs.Steps.{no-page, last-page, a-page}
 
 -- a part of so many entries has at most so many
 pub counted : (l : Layout) (s : List ℕ) (o n : ℕ) → countOf (partOf s o (sizeOf l * n)) l ≤ n
@@ -62,58 +64,54 @@ module _ (s : List ℕ) (l : Lists) (pages : List ℕ) (ep : pages ≡ pagesOf s
     pub looks-in : (x : Looked) → (r .at ≡ 0 → ⊥) → (r .at ≡ l .«pages_len» → ⊥) → x ≡ atPage s l pc (r .at - 1) (r .probes) → x ≡ lookupOf s l pc
     looks-in x h k e = e ∙ sym (a-page s l pc r h k) ∙ looked
 
-  module _ (pc p : ℕ) where
-    -- page p, read
-    module _ (probes a o : ℕ) (ea : a ≡ firstIn pages p) (eo : o ≡ offsetIn pages p) (w : Opened) (e : pageTold w ≡ pageOf s o a) where
-      reads : pageTold w ≡ pageOf s (offsetOf s l p) (firstOf s l p)
-      reads = e ∙ ap (pageOf s o) (first-is s l p pages ep a ea) ∙ ap (λ (k : ℕ). pageOf s k (firstOf s l p)) (offset-is s l p pages ep o eo)
+  -- page p, read
+  module _ (pc p probes a o : ℕ) (ea : a ≡ firstOf s l p) (eo : o ≡ offsetOf s l p) (w : Opened) (e : pageTold w ≡ pageOf s o a) where
+    reads : pageTold w ≡ pageOf s (offsetOf s l p) (firstOf s l p)
+    reads = e ∙ ap (pageOf s o) ea ∙ ap (λ (k : ℕ). pageOf s k (firstOf s l p)) eo
 
-      pub page-read : (pg : Page) → w ≡ Opened.Page pg → pageOf s (offsetOf s l p) (firstOf s l p) ≡ good pg
-      page-read pg q = sym reads ∙ ap pageTold q
+    pub page-refused : (k : Error) → w ≡ Opened.Refused k → refusal (numberOf k) probes ≡ atPage s l pc p probes
+    unfolding atPage fromPage
+    page-refused k q = ap (λ (v : Opened). fromPage s l pc p probes (pageTold v)) (sym q) ∙ ap (fromPage s l pc p probes) reads
 
-      pub page-refused : (k : Error) → w ≡ Opened.Refused k → refusal (numberOf k) probes ≡ atPage s l pc p probes
-      unfolding atPage fromPage
-      page-refused k q = ap (λ (v : Opened). fromPage s l pc p probes (pageTold v)) (sym q) ∙ ap (fromPage s l pc p probes) reads
+    module _ (pg : Page) (q : w ≡ Opened.Page pg) where
+      read : pageOf s o a ≡ good pg
+      read = sym e ∙ ap pageTold q
 
-      pub page-searched : (pg : Page) (x : Looked) → w ≡ Opened.Page pg → x ≡ fromPage s l pc p probes (good pg) → x ≡ atPage s l pc p probes
-      unfolding atPage
-      page-searched pg x q o = o ∙ ap (λ (v : Opened). fromPage s l pc p probes (pageTold v)) (sym q) ∙ ap (fromPage s l pc p probes) reads
+      pub starts : o + 4 ≤ length s
+      starts = starts-inside s o a pg read
 
-    -- page p was read as pg
-    module _ (pg : Page) (t : pageOf s (offsetOf s l p) (firstOf s l p) ≡ good pg) (o : ℕ) (eo : o ≡ offsetIn pages p) where
-      pub inside : o + 4 ≤ length s
-      inside = omega (arith, offset-is s l p pages ep o eo, starts-inside s (offsetOf s l p) (firstOf s l p) pg t)
-
+      -- the page's bytes, as the call has them
       abbrev pub lent : List ℕ
       lent = take (length s - o) (drop o s)
 
-      -- the search in it
-      module _ (functions : List ℕ) (ef : functions ≡ functionsOf lent pg) where
-        its-functions : functions ≡ functionsOf (pageAt s l p) pg
-        its-functions = ef ∙ ap (λ (page : List ℕ). functionsOf page pg) (page-is s l p pages ep o eo)
+      pub its-list : pg .«functions_offset» + sizeOf (layout (pg .kind)) * pg .«functions_len» ≤ length lent
+      its-list =
+          let h = fits _ (drop o s) (pg .«functions_offset») (functions-granted s o a pg read) in
+          rw (tail o s) h
 
-        pub few-functions : (lay : Layout) → lay ≡ layout (pg .kind) → countOf functions lay ≤ pg .«functions_len»
-        unfolding functionsOf
-        few-functions lay el = rw el (rw its-functions (counted (layout (pg .kind)) (pageAt s l p) (pg .«functions_offset») (pg .«functions_len»)))
+      pub page-searched : (globals : List ℕ) (next : ℕ) (x : Looked) → globals ≡ globalsOf s l → next ≡ firstOf s l (suc p)
+          → x ≡ searchedIn globals lent pg next pc probes → x ≡ atPage s l pc p probes
+      unfolding atPage fromPage searchedIn foundIn fromSpot functionAt pageAt
+      page-searched globals next x eg en ex =
+          let same : lent ≡ drop (offsetOf s l p) s = tail o s ∙ ap (λ (k : ℕ). drop k s) eo in
+          ex ∙ (simp (eg, en, same)) ∙ ap (λ (v : Opened). fromPage s l pc p probes (pageTold v)) (sym q) ∙ ap (fromPage s l pc p probes) reads
 
-        module _ (probes y : ℕ) (lay : Layout) (el : lay ≡ layout (pg .kind)) (ey : y ≡ pc - pg .base) (r : Spot) (er : r ≡ searchOf functions lay y) where
-          searched : fromSpot s l p pg probes r ≡ fromPage s l pc p probes (good pg)
-          unfolding fromPage
-          searched = ap (fromSpot s l p pg probes) (er ∙ simp (its-functions, el, ey))
+-- the search in a page
+module _ (page : List ℕ) (pg : Page) (functions : List ℕ) (ef : functions ≡ functionsOf page pg) (lay : Layout) (el : lay ≡ layout (pg .kind)) where
+  pub few-functions : countOf functions lay ≤ pg .«functions_len»
+  unfolding functionsOf
+  few-functions = rw el (rw ef (counted (layout (pg .kind)) page (pg .«functions_offset») (pg .«functions_len»)))
 
-          pub finds-none : r .at ≡ 0 → refusal 12 (probes + r .probes) ≡ fromPage s l pc p probes (good pg)
-          finds-none e = sym (no-function s l p pg probes r e) ∙ searched
+  module _ (globals : List ℕ) (next pc probes y : ℕ) (ey : y ≡ pc - pg .base) (r : Spot) (er : r ≡ searchOf functions lay y) where
+    searched : foundIn globals page pg next probes r ≡ searchedIn globals page pg next pc probes
+    unfolding searchedIn
+    searched = ap (foundIn globals page pg next probes) (er ∙ simp (ef, el, ey))
 
-          -- the function found
-          its : (globals locals : List ℕ) (there : Bool) (next i : ℕ) → globals ≡ globalsOf s l → locals ≡ localsOf lent pg → there ≡ localsGranted lent pg
-              → next ≡ firstIn pages (p + 1) → functionIn globals locals there functions pg next i ≡ functionAt s l p pg i
-          unfolding functionAt functionOf
-          its globals locals there next i eg elo et en =
-              let same = page-is s l p pages ep o eo in
-              simp (eg, elo ∙ ap (λ (page : List ℕ). localsOf page pg) same, et ∙ ap (λ (page : List ℕ). localsGranted page pg) same, its-functions, next-is s l p pages ep next en)
+    pub finds-none : r .at ≡ 0 → refusal 12 (probes + r .probes) ≡ searchedIn globals page pg next pc probes
+    unfolding foundIn
+    finds-none e = sym (simp (eq-eqb (r .at) 0 e)) ∙ searched
 
-          pub finds-one : (x : Looked) (a : Checked Function) (globals locals : List ℕ) (there : Bool) (next : ℕ) → (r .at ≡ 0 → ⊥)
-              → globals ≡ globalsOf s l → locals ≡ localsOf lent pg → there ≡ localsGranted lent pg → next ≡ firstIn pages (p + 1)
-              → a ≡ functionIn globals locals there functions pg next (r .at - 1) → x ≡ telling (probes + r .probes) a → x ≡ fromPage s l pc p probes (good pg)
-          finds-one x a globals locals there next h eg el et en ea ex =
-              ex ∙ ap (telling (probes + r .probes)) (ea ∙ its globals locals there next (r .at - 1) eg el et en) ∙ sym (a-function s l p pg probes r h) ∙ searched
+    pub finds-one : (x : Looked) → (r .at ≡ 0 → ⊥)
+        → x ≡ telling (probes + r .probes) (functionIn globals (localsOf page pg) (localsGranted page pg) functions pg next (r .at - 1)) → x ≡ searchedIn globals page pg next pc probes
+    unfolding foundIn functionOf
+    finds-one x h ex = ex ∙ sym (simp (ne-eqb (r .at) 0 h, sym ef)) ∙ searched

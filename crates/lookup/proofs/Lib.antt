@@ -1,3 +1,4 @@
+pub mod Straight
 pub mod Steps
 pub mod Cases
 pub mod Probes

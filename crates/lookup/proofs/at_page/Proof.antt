@@ -1,22 +1,46 @@
 -- `lookup::at_page` meets its contract: the page is refused, or searched.
 -- Assumes nothing.
+use Rattle.lookup.proofs.Straight.{globals-inside, entries-there, first-at, offset-at, next-at}
+use Rattle.lookup.proofs.Cases.{page-refused, page-searched, starts, its-list}
+use Rattle.raw.specs.Raw.{globalsOf}
+use native.Mathlib.Omega.{arith}
 use borrow.Author.Needs.{needs}
-use Rattle.lookup.proofs.Cases.{page-read, page-refused, page-searched}
 use Rattle.lookup.proofs.at_page.Statement.{statement}
 use Rattle.lookup.proofs.at_page.Tie as tie
 
+four-requires : tie.Need-four-requires
+four-requires c κs = omega (arith, entries-there _ _ (c .before .before .pre .1) _ (c .before .before .pre .0) _ (c .before .before .pre .2))
+
+four-requires-2 : tie.Need-four-requires-2
+four-requires-2 c κs = omega (arith, entries-there _ _ (c .before .before .before .pre .1) _ (c .before .before .before .pre .0) _ (c .before .before .before .pre .2))
+
+four-requires-3 : tie.Need-four-requires-3
+four-requires-3 c κs = omega (arith, entries-there _ _ (c .before .before .before .before .pre .1) _ (c .before .before .before .before .pre .0) _ (c .before .before .before .before .pre .2))
+
+inside-requires : tie.Need-inside-requires
+inside-requires c κs = globals-inside _ _ (c .before .before .before .before .before .before .before .before .before .pre .1)
+
+sub-in-page : tie.Need-sub-in-page
+sub-in-page c =
+    let h = starts _ _ _ (c .before .before .before .before .before .before .before .before .before .before .pre .0) 0 _ 0 _ _ (first-at _ _ (c .before .before .before .before .before .before .before .before .before .before .pre .1) _ (c .before .before .before .before .before .before .before .before .before .before .pre .0) _ _ (c .before .before .before .before .before .before .before .four .ensures)) (offset-at _ _ (c .before .before .before .before .before .before .before .before .before .before .pre .1) _ (c .before .before .before .before .before .before .before .before .before .before .pre .0) _ _ (c .before .before .before .before .before .before .four2 .ensures)) _ (c .before .before .before .before .read-page .ensures) _ (c .before .before .pg .given .1) in
+    omega (arith, h)
+
+part-in-page-start : tie.Need-part-in-page-start
+part-in-page-start c =
+    let h = starts _ _ _ (c .before .before .before .before .before .before .before .before .before .before .pre .0) 0 _ 0 _ _ (first-at _ _ (c .before .before .before .before .before .before .before .before .before .before .pre .1) _ (c .before .before .before .before .before .before .before .before .before .before .pre .0) _ _ (c .before .before .before .before .before .before .before .four .ensures)) (offset-at _ _ (c .before .before .before .before .before .before .before .before .before .before .pre .1) _ (c .before .before .before .before .before .before .before .before .before .before .pre .0) _ _ (c .before .before .before .before .before .before .four2 .ensures)) _ (c .before .before .before .before .read-page .ensures) _ (c .before .before .pg .given .1) in
+    search needs
+
 in-page-requires : tie.Need-in-page-requires
-in-page-requires c κs =
-    let p = c .before .before .before .before .before .before .before .before .pre in
-    (p .0, p .1, page-read _ _ _ (c .before .before .before .before .before .before .pages .ensures) 0 _ 0 _ _ (c .before .before .before .before .before .first-address .ensures) (c .before .before .before .before .page-offset .ensures) _ (c .before .before .before .read-page .ensures) _ (c .before .pg .given .1))
+in-page-requires c κs = (c .before .before .before .before .before .before .before .before .before .before .before .pre .3, its-list _ _ _ (c .before .before .before .before .before .before .before .before .before .before .before .pre .0) 0 _ 0 _ _ (first-at _ _ (c .before .before .before .before .before .before .before .before .before .before .before .pre .1) _ (c .before .before .before .before .before .before .before .before .before .before .before .pre .0) _ _ (c .before .before .before .before .before .before .before .before .four .ensures)) (offset-at _ _ (c .before .before .before .before .before .before .before .before .before .before .before .pre .1) _ (c .before .before .before .before .before .before .before .before .before .before .before .pre .0) _ _ (c .before .before .before .before .before .before .before .four2 .ensures)) _ (c .before .before .before .before .before .read-page .ensures) _ (c .before .before .before .pg .given .1))
 
 returns : tie.Need-returns
-returns c = page-searched _ _ _ (c .before .before .before .before .before .before .before .pages .ensures) _ _ _ _ _ (c .before .before .before .before .before .before .first-address .ensures) (c .before .before .before .before .before .page-offset .ensures) _ (c .before .before .before .before .read-page .ensures) _ _ (c .before .before .pg .given .1) (c .in-page .ensures)
+unfolding globalsOf
+returns c = page-searched _ _ _ (c .before .before .before .before .before .before .before .before .before .before .before .before .pre .0) _ _ _ _ _ (first-at _ _ (c .before .before .before .before .before .before .before .before .before .before .before .before .pre .1) _ (c .before .before .before .before .before .before .before .before .before .before .before .before .pre .0) _ _ (c .before .before .before .before .before .before .before .before .before .four .ensures)) (offset-at _ _ (c .before .before .before .before .before .before .before .before .before .before .before .before .pre .1) _ (c .before .before .before .before .before .before .before .before .before .before .before .before .pre .0) _ _ (c .before .before .before .before .before .before .before .before .four2 .ensures)) _ (c .before .before .before .before .before .before .read-page .ensures) _ (c .before .before .before .before .pg .given .1) _ _ _ (c .before .before .inside .ensures) (next-at _ _ (c .before .before .before .before .before .before .before .before .before .before .before .before .pre .1) _ (c .before .before .before .before .before .before .before .before .before .before .before .before .pre .0) _ _ (c .before .before .before .before .before .before .before .four3 .ensures)) (c .in-page .ensures)
 
 returns-2 : tie.Need-returns-2
-returns-2 c = page-refused _ _ _ (c .before .before .before .before .before .before .pages .ensures) _ _ _ _ _ (c .before .before .before .before .before .first-address .ensures) (c .before .before .before .before .page-offset .ensures) _ (c .before .before .before .read-page .ensures) _ (c .before .error .given .1)
+returns-2 c = page-refused _ _ _ (c .before .before .before .before .before .before .before .before .before .pre .0) _ _ _ _ _ (first-at _ _ (c .before .before .before .before .before .before .before .before .before .pre .1) _ (c .before .before .before .before .before .before .before .before .before .pre .0) _ _ (c .before .before .before .before .before .before .four .ensures)) (offset-at _ _ (c .before .before .before .before .before .before .before .before .before .pre .1) _ (c .before .before .before .before .before .before .before .before .before .pre .0) _ _ (c .before .before .before .before .before .four2 .ensures)) _ (c .before .before .before .read-page .ensures) _ (c .before .error .given .1)
 
 pub at-page-spec : {M : Type 1} → statement M
 at-page-spec =
     tie.close
-    (tie.spec (λ c κs. search needs) (λ c κs. search needs) (λ c κs. search needs) (λ c κs. search needs) (λ c. search needs) in-page-requires (λ c. search needs) returns returns-2)
+    (tie.spec (λ c. search needs) four-requires (λ c. search needs) four-requires-2 (λ c. search needs) four-requires-3 (λ c κs. search needs) (λ c. search needs) (λ c. search needs) (λ c. search needs) (λ c. search needs) (λ c. search needs) inside-requires sub-in-page part-in-page-start (λ c. search needs) in-page-requires (λ c. search needs) returns returns-2)

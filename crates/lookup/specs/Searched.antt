@@ -1,0 +1,20 @@
+-- What the helpers promise: the lookup in a page that was read, over the page's bytes and the next page's first address.
+-- Assumes nothing.
+use Prim.Native.Nat.{ℕ, _+_, _-_}
+use mathlib.Core.List.{List}
+use mathlib.Core.Bool.{cond}
+use lib.Dec.{eqb}
+use Rattle.search.specs.declared.Spot.{Spot}
+use Rattle.search.specs.Search.{searchOf}
+use Rattle.raw.specs.declared.Page.{Page}
+use Rattle.raw.specs.Raw.{layout}
+use Rattle.entries.specs.Entries.{functionsOf, functionOf}
+use Rattle.lookup.specs.Lookup.{Looked, refusal, telling}
+
+module _ (globals page : List ℕ) (pg : Page) (next : ℕ) where
+  unfoldable pub foundIn : ℕ → Spot → Looked
+  foundIn probes spot =
+      cond (eqb (spot .at) 0) (refusal 12 (probes + spot .probes)) (telling (probes + spot .probes) (functionOf page pg globals next (spot .at - 1)))
+
+  unfoldable pub searchedIn : ℕ → ℕ → Looked
+  searchedIn pc probes = foundIn probes (searchOf (functionsOf page pg) (layout (pg .kind)) (pc - pg .base))
