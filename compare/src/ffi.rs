@@ -4,6 +4,7 @@
 
 pub mod frame;
 pub mod section;
+pub mod unwind;
 
 /// `refusal` of a permutation that isn't accepted.
 pub const PERMUTATION_REFUSED: u32 = 23;

@@ -2,7 +2,7 @@
 //! run, and frames that a processor has run.
 
 pub mod case;
-mod json;
+pub mod json;
 pub mod machine;
 pub mod named;
 pub mod real;
@@ -10,7 +10,7 @@ pub mod returns;
 mod rules;
 mod rust;
 pub mod steps;
-mod words;
+pub mod words;
 
 use crate::tally::Report;
 use machine::{Machine, ARM64, X86_64};

@@ -1,9 +1,10 @@
 //! Feeds the proved functions of `libexports.a` and the Rust crate the same inputs.
 //!
 //! `compare` counts equal and different answers, `sections` those on sections alone, `frames` those
-//! on frames alone, `program` the lines of the program that lists functions; `record FILE` and
-//! `record-sections FILE` write answers of the Rust for a replay, `record-frames FILE` those of a
-//! processor; `worst FILE` writes a section with a very long listing, `bench` measures both.
+//! on frames alone, `unwind` those on lookups with a step alone, `program` the lines of the program
+//! that lists functions; `record FILE` and `record-sections FILE` write answers of the Rust for a
+//! replay, `record-frames FILE` those of a processor; `worst FILE` writes a section with a very
+//! long listing, `bench` measures both.
 
 mod bench;
 mod encoder;
@@ -11,6 +12,7 @@ mod ffi;
 mod frames;
 mod header;
 mod model;
+mod numbers;
 mod oracle;
 mod permutations;
 mod program;
@@ -20,6 +22,7 @@ mod record;
 mod registers;
 mod sections;
 mod tally;
+mod unwind;
 mod words;
 mod worst;
 
@@ -33,16 +36,19 @@ fn main() -> ExitCode {
         [] | ["compare"] => compare(all),
         ["sections"] => compare(sections::compare),
         ["frames"] => compare(frames::compare),
+        ["unwind"] => compare(unwind::compare),
         ["program", ref command @ ..] => compare(|report| program::compare(command, report)),
         ["record", file] => done(record::write(file)),
         ["record-sections", file] => done(record::sections::write(file)),
         ["record-frames", file] => done(record::frames::write(file)),
         ["worst", file] => done(worst::write(file)),
-        ["bench"] => done(bench::run()),
+        ["bench"] => done(bench::run("")),
+        ["bench", word] => done(bench::run(word)),
         _ => {
             eprintln!(
-                "usage: compare/run [compare | sections | frames | program COMMAND | record FILE \
-                 | record-sections FILE | record-frames FILE | worst FILE | bench]"
+                "usage: compare/run [compare | sections | frames | unwind | program COMMAND \
+                 | record FILE | record-sections FILE | record-frames FILE | worst FILE \
+                 | bench [WORD]]"
             );
             ExitCode::from(2)
         }
@@ -58,6 +64,7 @@ fn compare(subjects: impl FnOnce(&mut Report) -> std::io::Result<()>) -> ExitCod
 }
 
 fn all(report: &mut Report) -> std::io::Result<()> {
+    numbers::compare(report);
     permutations::compare(report);
     encoder::compare(report);
     words::compare(report);
@@ -65,7 +72,8 @@ fn all(report: &mut Report) -> std::io::Result<()> {
     reads::compare(report);
     header::compare(report)?;
     frames::compare(report)?;
-    sections::compare(report)
+    sections::compare(report)?;
+    unwind::compare(report)
 }
 
 fn done(result: std::io::Result<()>) -> ExitCode {

@@ -8,6 +8,7 @@ mod bytes;
 pub mod frame;
 mod page;
 mod search;
+pub mod unwind;
 mod well_formed;
 
 use crate::ffi::section::{

@@ -1,19 +1,25 @@
-//! The inputs that are measured.
+//! The inputs that are measured: so many that a processor doesn't learn their branches.
 
 use crate::encoder;
 use crate::random::Random;
 use crate::words::of_kind;
 
-const INPUTS: usize = 4096;
+/// Inputs of a row, at least.
+pub const INPUTS: usize = 32_768;
 
-/// Every accepted permutation of counts 1 to 6, shuffled.
+/// Every accepted permutation of counts 1 to 6, shuffled, again and again.
 pub fn accepted() -> Vec<(u32, u32)> {
+    let mut random = Random::new(9);
     let mut pairs: Vec<_> = encoder::accepted()
         .iter()
         .map(|&(count, encoding, _)| (count, encoding))
         .collect();
-    Random::new(9).shuffle(&mut pairs);
-    pairs
+    let mut inputs = Vec::new();
+    while inputs.len() < INPUTS {
+        random.shuffle(&mut pairs);
+        inputs.extend_from_slice(&pairs);
+    }
+    inputs
 }
 
 /// Any count of three bits with any encoding of ten bits, many of them refused.

@@ -2,6 +2,7 @@
 
 use super::machine::Machine;
 use crate::ffi::frame::{Registers, Step, Window};
+use crate::ffi::unwind::Unwound;
 use crate::model::frame::step;
 use std::fmt::{Display, Formatter, Result};
 
@@ -24,13 +25,22 @@ impl<const N: usize> Case<N> {
         }
     }
 
-    /// The window lies in the midst of other bytes, at any alignment.
     pub fn ours(&self, machine: &Machine<N>) -> Step<N> {
+        self.placed(|window| (machine.step)(self.word, self.registers, window))
+    }
+
+    /// A lookup of an address, which stands for the word, and then the step.
+    pub fn unwind(&self, machine: &Machine<N>, section: &[u8], address: u32) -> Unwound<N> {
+        self.placed(|window| (machine.unwind)(section, address, self.registers, window))
+    }
+
+    /// Has the window lie in the midst of other bytes, at any alignment.
+    pub fn placed<A>(&self, ask: impl FnOnce(Window) -> A) -> A {
         let place = (self.word as usize + self.bytes.len()) % AROUND.len();
         let memory = [&AROUND[..place], &self.bytes, &AROUND].concat();
         let bytes = &memory[place..place + self.bytes.len()];
         let base = self.base;
-        (machine.step)(self.word, self.registers, Window { base, bytes })
+        ask(Window { base, bytes })
     }
 
     pub fn model(&self, machine: &Machine<N>) -> Step<N> {

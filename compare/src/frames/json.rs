@@ -6,6 +6,7 @@ pub enum Json {
     Text(String),
     Number(u32),
     Truth(bool),
+    Nothing,
     List(Vec<Json>),
     Object(BTreeMap<String, Json>),
 }
@@ -85,7 +86,7 @@ fn text(rest: &mut &str) -> Option<String> {
     (!text.contains('\\')).then(|| text.to_owned())
 }
 
-/// A number or a truth value.
+/// A number, a truth value or none.
 fn word(rest: &mut &str) -> Option<Json> {
     let end = rest.find(|c: char| !c.is_ascii_alphanumeric());
     let (word, after) = rest.split_at(end.unwrap_or(rest.len()));
@@ -93,6 +94,7 @@ fn word(rest: &mut &str) -> Option<Json> {
     match word {
         "true" => Some(Json::Truth(true)),
         "false" => Some(Json::Truth(false)),
+        "null" => Some(Json::Nothing),
         digits => digits.parse().ok().map(Json::Number),
     }
 }

@@ -2,6 +2,7 @@
 
 use super::rust;
 use crate::ffi::frame::{self as ours, Registers, Rule, Step, Window};
+use crate::ffi::unwind::{unwind_arm64, unwind_x86_64, Unwound};
 use crate::model::frame::prologue::{self, Prologue};
 use crate::model::frame::{self as model, Frame, Refused};
 use crate::oracle::Release;
@@ -14,6 +15,8 @@ pub struct Machine<const N: usize> {
     pub saved_names: [&'static str; N],
     pub rule: fn(u32) -> Rule<N>,
     pub step: fn(u32, Registers<N>, Window) -> Step<N>,
+    /// Takes a section and an address first.
+    pub unwind: fn(&[u8], u32, Registers<N>, Window) -> Unwound<N>,
     /// What the model reads from a word.
     pub frame: fn(u32) -> Result<Frame<N>, Refused>,
     /// The same with the Rust's decoding; none where that loses what decides.
@@ -30,6 +33,7 @@ pub static X86_64: Machine<6> = Machine {
     saved_names: ["rbx", "r12", "r13", "r14", "r15", "rbp"],
     rule: ours::rule_x86_64,
     step: ours::step_x86_64,
+    unwind: unwind_x86_64,
     frame: model::x86_64::frame,
     rust: rust::x86_64,
     prologue: prologue::x86_64::any,
@@ -45,6 +49,7 @@ pub static ARM64: Machine<20> = Machine {
     ],
     rule: ours::rule_arm64,
     step: ours::step_arm64,
+    unwind: unwind_arm64,
     frame: model::arm64::frame,
     rust: rust::arm64,
     prologue: prologue::arm64::any,

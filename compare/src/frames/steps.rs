@@ -27,12 +27,25 @@ pub fn compare<const N: usize>(machine: &Machine<N>, report: &mut Report) {
 /// Cases for ever.
 pub fn cases<const N: usize>(machine: &Machine<N>) -> impl Iterator<Item = Case<N>> + '_ {
     let mut random = Random::new(23);
-    let memory = random_bytes(&mut random, 2 * LONGEST as usize);
-    (0..).map(move |_| case(machine, &memory, &mut random))
+    let memory = memory(&mut random);
+    (0..).map(move |_| {
+        let word = words::any(machine, &mut random);
+        case(machine, word, &memory, &mut random)
+    })
 }
 
-fn case<const N: usize>(machine: &Machine<N>, memory: &[u8], random: &mut Random) -> Case<N> {
-    let word = words::any(machine, random);
+/// Bytes that windows are parts of.
+pub fn memory(random: &mut Random) -> Vec<u8> {
+    random_bytes(random, 2 * LONGEST as usize)
+}
+
+/// Any registers, and a window near the frame that the word has with them.
+pub fn case<const N: usize>(
+    machine: &Machine<N>,
+    word: u32,
+    memory: &[u8],
+    random: &mut Random,
+) -> Case<N> {
     let mut registers = random_registers(random);
     let frame = (machine.frame)(word).ok();
     let (distance, depth) = frame.as_ref().map_or((16, 16), |f| (f.distance, f.depth()));

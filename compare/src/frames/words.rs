@@ -14,6 +14,6 @@ pub fn any<const N: usize>(machine: &Machine<N>, random: &mut Random) -> u32 {
     }
 }
 
-fn sound<const N: usize>(machine: &Machine<N>, random: &mut Random) -> u32 {
+pub fn sound<const N: usize>(machine: &Machine<N>, random: &mut Random) -> u32 {
     (machine.prologue)(random, machine.largest).word(random.next())
 }

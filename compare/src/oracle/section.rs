@@ -5,6 +5,7 @@ use crate::ffi::section::{LookupAnswer, NextAnswer, ParseAnswer, FOUND, NONE, RE
 use std::any::Any;
 use std::fmt::{Debug, Formatter};
 use std::panic::{catch_unwind, AssertUnwindSafe};
+use std::sync::Once;
 
 /// One build of the crate.
 pub struct Build {
@@ -145,11 +146,14 @@ fn cause(panic: &(dyn Any + Send)) -> u8 {
 
 /// Has panics of the crate say nothing; all others still do.
 pub fn silence_panics() {
-    let loud = std::panic::take_hook();
-    std::panic::set_hook(Box::new(move |panic| {
-        let file = panic.location().map_or("", |place| place.file());
-        if !file.contains("macho-unwind-info") {
-            loud(panic);
-        }
-    }));
+    static SILENCED: Once = Once::new();
+    SILENCED.call_once(|| {
+        let loud = std::panic::take_hook();
+        std::panic::set_hook(Box::new(move |panic| {
+            let file = panic.location().map_or("", |place| place.file());
+            if !file.contains("macho-unwind-info") {
+                loud(panic);
+            }
+        }));
+    });
 }

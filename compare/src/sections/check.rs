@@ -1,5 +1,6 @@
 //! All questions on one section, put to both sides.
 
+mod batches;
 mod fills;
 mod iteration;
 mod lists;
@@ -7,12 +8,14 @@ mod lookups;
 mod sides;
 
 use super::case::Case;
+use super::opened::Opened;
 use super::outside::Outside;
-use crate::ffi::section::{self as ours, Lists};
-use crate::model::{self, Refusal, Section};
-use crate::oracle::section::{View, BUILDS};
+use crate::ffi::section as ours;
+use crate::model;
+use crate::oracle::section::BUILDS;
 use crate::random::Random;
 use crate::tally::{Report, Tally};
+use batches::Batches;
 use sides::Sides;
 
 /// The groups of answers.
@@ -20,6 +23,7 @@ pub struct Checks {
     parse: Sides,
     range: Sides,
     lookup: Sides,
+    batches: Batches,
     iteration: Sides,
     cursors: Tally,
     fill: Tally,
@@ -28,43 +32,13 @@ pub struct Checks {
     outside: Outside,
 }
 
-/// A section as the model and the Rust have read it.
-struct Opened<'a> {
-    case: &'a Case<'a>,
-    section: &'a [u8],
-    model: Result<Section<'a>, Refusal>,
-    /// What `parse` gives; made up where it refuses.
-    lists: Lists,
-    rust: [Option<Box<dyn View<'a> + 'a>>; 3],
-}
-
-impl<'a> Opened<'a> {
-    fn new(case: &'a Case<'a>) -> Self {
-        let section = case.section();
-        let model = Section::parse(section);
-        Opened {
-            case,
-            section,
-            lists: model.as_ref().map_or(Lists::default(), Section::lists),
-            model,
-            rust: BUILDS.each_ref().map(|build| (build.open)(section)),
-        }
-    }
-
-    /// The builds that parsed the section, each by its place in `BUILDS`.
-    fn views(&self) -> impl Iterator<Item = (usize, &dyn View<'a>)> {
-        (0..)
-            .zip(&self.rust)
-            .filter_map(|(build, view)| Some((build, view.as_deref()?)))
-    }
-}
-
 impl Checks {
     pub fn new() -> Self {
         Checks {
             parse: Sides::new("parse"),
             range: Sides::new("address range"),
             lookup: Sides::new("lookup"),
+            batches: Batches::new(),
             iteration: Sides::new("iteration"),
             cursors: Tally::new("sections, next from any cursor, model"),
             fill: Tally::new("sections, fill, model"),
@@ -78,6 +52,7 @@ impl Checks {
         for sides in [self.parse, self.range, self.lookup, self.iteration] {
             sides.add_to(report);
         }
+        self.batches.add_to(report);
         for tally in [self.cursors, self.fill, self.lists, self.well_formed] {
             report.add(tally);
         }
@@ -93,11 +68,12 @@ impl Checks {
             return model::is_well_formed(&opened.model);
         }
         self.range(&opened);
-        self.lookups(&opened, &mut random);
+        let looked_up = self.lookups(&opened, &mut random);
         let functions = self.iteration(&opened);
         self.cursors(&opened, &mut random);
         self.fills(&opened, functions, &mut random);
         self.lists(&opened, &mut random);
+        self.batches.ask(&opened, &looked_up, &mut random);
         self.well_formed(&opened)
     }
 

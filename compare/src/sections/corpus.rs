@@ -29,6 +29,12 @@ pub fn sections() -> Result<Vec<Real>> {
     files(&folder, "bin")?.into_iter().map(read).collect()
 }
 
+/// The bytes of the section with a name; none of them where there is no such section.
+pub fn find<'a>(sections: &'a [Real], name: &str) -> &'a [u8] {
+    let section = sections.iter().find(|real| real.name == name);
+    section.map_or(&[], |real| &real.bytes)
+}
+
 /// The files of a folder with an extension, by name.
 pub fn files(folder: &Path, extension: &str) -> Result<Vec<PathBuf>> {
     let mut paths = Vec::new();
@@ -95,7 +101,7 @@ fn listing(tally: &mut Tally, real: &Real) -> Result<()> {
 }
 
 /// The iteration in the form of document 01's program.
-fn iterated(section: &[u8]) -> Vec<String> {
+pub fn iterated(section: &[u8]) -> Vec<String> {
     let (mut lines, mut cursor, mut functions) = (Vec::new(), (0, 0), 0);
     loop {
         let next = ours::next(section, cursor);
@@ -120,14 +126,16 @@ fn listed(section: &Path) -> Result<String> {
     if plain.exists() {
         return std::fs::read_to_string(plain);
     }
-    let unpacked = Command::new("gzip")
-        .arg("-dc")
-        .arg(section.with_extension("txt.gz"))
-        .output()?;
+    unpacked(&section.with_extension("txt.gz"))
+}
+
+/// The text that is packed in a file.
+pub fn unpacked(path: &Path) -> Result<String> {
+    let unpacked = Command::new("gzip").arg("-dc").arg(path).output()?;
     if !unpacked.status.success() {
-        return Err(malformed(&section.with_extension("txt.gz")));
+        return Err(malformed(path));
     }
-    String::from_utf8(unpacked.stdout).map_err(|_| malformed(section))
+    String::from_utf8(unpacked.stdout).map_err(|_| malformed(path))
 }
 
 /// Both calls of lookup on each line `pc start end opcode probes` or `pc none probes`.

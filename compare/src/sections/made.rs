@@ -7,8 +7,15 @@ use crate::random::Random;
 const PAGES: [u32; 8] = [0, 1, 1, 2, 2, 3, 4, 6];
 const FUNCTIONS: [u32; 8] = [1, 1, 2, 3, 4, 6, 9, 24];
 
+/// What an opcode word is drawn by.
+pub type Word<'a> = &'a dyn Fn(&mut Random) -> u32;
+
 pub fn plan(random: &mut Random) -> Plan {
-    let globals = words(random, 5);
+    plan_of(&Random::next, random)
+}
+
+pub fn plan_of(word: Word, random: &mut Random) -> Plan {
+    let globals = words(word, random, 5);
     let mut address = match random.below(4) {
         0 => 0,
         1 => random.below(0x1_0000),
@@ -16,7 +23,7 @@ pub fn plan(random: &mut Random) -> Plan {
     };
     let mut pages = Vec::new();
     for _ in 0..*pick(random, &PAGES) {
-        let page = page(random, &mut address, globals.len() as u32);
+        let page = page(word, random, &mut address, globals.len() as u32);
         pages.push(page);
     }
     let has_end = !pages.is_empty() || random.below(2) == 0;
@@ -28,11 +35,11 @@ pub fn plan(random: &mut Random) -> Plan {
 }
 
 /// A page from `address` on, which is moved to its end.
-fn page(random: &mut Random, address: &mut u32, globals: u32) -> Page {
+fn page(word: Word, random: &mut Random, address: &mut u32, globals: u32) -> Page {
     let compressed = random.below(2) == 0;
-    let mut locals = words(random, 4);
+    let mut locals = words(word, random, 4);
     if globals == 0 && locals.is_empty() {
-        locals.push(random.next());
+        locals.push(word(random));
     }
     let opcodes = globals + locals.len() as u32;
     let first = *address;
@@ -42,7 +49,7 @@ fn page(random: &mut Random, address: &mut u32, globals: u32) -> Page {
         let opcode = if compressed {
             random.below(opcodes)
         } else {
-            random.next()
+            word(random)
         };
         let start = *address;
         functions.push(Function { start, opcode });
@@ -57,8 +64,8 @@ fn page(random: &mut Random, address: &mut u32, globals: u32) -> Page {
 }
 
 /// Fewer than `bound` words.
-fn words(random: &mut Random, bound: u32) -> Vec<u32> {
-    (0..random.below(bound)).map(|_| random.next()).collect()
+fn words(word: Word, random: &mut Random, bound: u32) -> Vec<u32> {
+    (0..random.below(bound)).map(|_| word(random)).collect()
 }
 
 pub fn pick<'a, T>(random: &mut Random, items: &'a [T]) -> &'a T {

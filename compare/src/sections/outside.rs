@@ -1,7 +1,7 @@
 //! Answers outside the domain of the comparison, counted by their reason.
 
 use super::case::{hex, Case};
-use crate::oracle::section::Told;
+use crate::oracle::section::{Told, BUILDS};
 use std::collections::BTreeMap;
 use std::fmt::Display;
 
@@ -14,6 +14,17 @@ pub enum Reason {
 }
 
 impl Reason {
+    /// Of a question to a build by its place in `BUILDS`; none on the domain. `refusal` is the
+    /// model's, never the Rust's.
+    pub fn of(build: usize, keys_rise: bool, refusal: u32) -> Option<Reason> {
+        match refusal {
+            13 if !BUILDS[build].checks_sums => Some(Reason::Refusal13),
+            _ if !keys_rise => Some(Reason::KeysDoNotRise),
+            14 if !BUILDS[build].checks_sums => Some(Reason::Refusal14),
+            _ => None,
+        }
+    }
+
     fn name(self) -> &'static str {
         match self {
             Reason::KeysDoNotRise => "keys don't rise",

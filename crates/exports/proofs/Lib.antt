@@ -1,3 +1,5 @@
 pub mod Flattened
 pub mod Refusals
 pub mod FlatFrames
+pub mod FlatUnwinds
+pub mod Batched

@@ -3,4 +3,6 @@ pub mod frames;
 pub mod permutations;
 pub mod reads;
 pub mod sections;
+pub mod unwind;
 pub mod words;
+// .

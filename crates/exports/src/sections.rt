@@ -6,6 +6,7 @@ ghost use Rattle.raw.specs.Raw.{parseOf, listsTold};
 ghost use Rattle.iterate.specs.Iterate.{nextOn, nextIn, nextTold};
 ghost use Rattle.iterate.specs.Range.{rangeOn, rangeIn, rangeTold};
 ghost use Rattle.lookup.specs.Lookup.{lookupOn, lookupIn, lookedTold, probesOf};
+ghost use Rattle.batch.specs.Batch.{batch, batchOf};
 ghost use Rattle.fill.specs.Fill.{fillOn, fillIn, filledTold};
 ghost use Rattle.well_formed.specs.WellFormed.{wellFormed};
 ghost use Rattle.exports.specs.Sections.{parseAnswer, rangeAnswer, lookupAnswer, nextAnswer, fillAnswer, flatFilled, filledOutcome};
@@ -165,6 +166,19 @@ pub extern "C" fn brasspurse_lookup_in(section: &[u8], lists: Lists, address: u3
     ensures { λ r. ⌜ r ≡ lookupAnswer (lookupIn (now (section .entry)) lists address) ⌝ }
 {
     flat_lookup(lookup::lookup_in(section, lists, address))
+}
+
+// Looks up as many of the addresses as there is room for, and says how many. Answer i is the four numbers from 4 * i on: start, end, opcode,
+// and probes + 65,536 * outcome + 16,777,216 * refusal, which are the 16 bytes of a LookupAnswer.
+#[no_mangle]
+pub extern "C" fn brasspurse_lookup_batch(
+    section: &[u8],
+    addresses: &[u32],
+    answers: &mut [u32],
+) -> usize
+    ensures { λ r. ⌜ batch r (now (answers .exit)) ≡ batchOf (now (section .entry)) (now (addresses .entry)) (now (answers .entry)) ⌝ }
+{
+    batch::lookup_batch(section, addresses, answers)
 }
 
 fn flat_next(next: Next) -> NextAnswer

@@ -7,6 +7,7 @@ use lib.ListN.{length}
 use lib.Dec.{ltb, leb}
 use Rattle.reader.specs.Reader.{wordAt}
 use Rattle.search.specs.declared.Spot.{Spot}
+use Rattle.search.specs.declared.Spots.{Spots}
 use Rattle.search.specs.declared.Layout.{Layout}
 
 -- the bytes of an entry, by the list's layout
@@ -47,6 +48,10 @@ run key x lo hi = rounds key x (hi - lo) lo hi
 
 unfoldable pub searchOf : List ℕ → Layout → ℕ → Spot
 searchOf list layout x = run (keyOf list layout) x 0 (countOf list layout)
+
+-- four searches
+abbrev pub spotsOf : Spot → Spot → Spot → Spot → Spots
+spotsOf a b c d = record { a = a; b = b; c = c; d = d }
 
 -- the first n keys rise strictly
 abbrev pub Rising : (ℕ → ℕ) → ℕ → Type 0

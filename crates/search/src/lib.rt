@@ -3,7 +3,7 @@ ghost use mathlib.Core.Path.{_≡_};
 ghost use Prim.Native.Nat.{_+_, _*_, _^_, _≤_, _<_};
 ghost use lib.ListN.{length};
 ghost use Rattle.reader.specs.Reader.{wordAt};
-ghost use Rattle.search.specs.Search.{sizeOf, countOf, keyOf, run, searchOf};
+ghost use Rattle.search.specs.Search.{sizeOf, countOf, keyOf, run, searchOf, spotsOf};
 ghost use Rattle.search.specs.Steps.{Took, OnWay, Below, from};
 
 // Where a search ended: one past the entry found, 0 if there is none; and how many entries it probed.
@@ -315,5 +315,39 @@ pub fn search(list: &[u8], layout: Layout, x: u32) -> Spot
         Layout::Pages => search_pages(list, list.len() / 12, x),
         Layout::Regular => search_regular(list, list.len() / 8, x),
         Layout::Compressed => search_compressed(list, list.len() / 4, x),
+    }
+}
+
+// Where four searches ended.
+pub struct Spots {
+    pub a: Spot,
+    pub b: Spot,
+    pub c: Spot,
+    pub d: Spot,
+}
+
+// Four searches in one call.
+pub fn search_four(
+    layout: Layout,
+    a: &[u8],
+    xa: u32,
+    b: &[u8],
+    xb: u32,
+    c: &[u8],
+    xc: u32,
+    d: &[u8],
+    xd: u32,
+) -> Spots
+    ensures { λ r. ⌜ r ≡ spotsOf (searchOf (now (a .entry)) layout xa) (searchOf (now (b .entry)) layout xb) (searchOf (now (c .entry)) layout xc) (searchOf (now (d .entry)) layout xd) ⌝ }
+{
+    let p = search(a, layout, xa);
+    let q = search(b, layout, xb);
+    let r = search(c, layout, xc);
+    let s = search(d, layout, xd);
+    Spots {
+        a: p,
+        b: q,
+        c: r,
+        d: s,
     }
 }

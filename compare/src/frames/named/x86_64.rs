@@ -28,6 +28,16 @@ fn p12() -> Case<6> {
     )
 }
 
+/// The same frame after 65,536 other bytes, at 0x20000 to 0x20018.
+fn p12_far_in() -> Case<6> {
+    Case {
+        registers: registers(0x6f00, 0x2_0008),
+        base: 0x1_0000,
+        bytes: [vec![0; 0x1_0000], p12().bytes].concat(),
+        ..p12()
+    }
+}
+
 /// rbx, then r12, then the return address at 0x8000 to 0x8018.
 fn two_pushed() -> Case<6> {
     case(
@@ -45,6 +55,7 @@ fn frames() -> Vec<Named<6>> {
         saved,
     };
     let p12_caller = caller(0x7018, [0xb0b, 0x12, 0x13, 0x14, 0x15, 0x7777]);
+    let far_caller = caller(0x2_0018, [0xb0b, 0x12, 0x13, 0x14, 0x15, 0x7777]);
     let pushed_caller = caller(0x8018, [0xb0b, 0x1212, 0x13, 0x14, 0x15, 6]);
     // r15 in field 0, rbx in field 2; the slot between is nobody's.
     let gap = case(
@@ -66,6 +77,7 @@ fn frames() -> Vec<Named<6>> {
         gives("P12", p12(), p12_caller),
         refuses("P12, last byte gone", without_last(p12()), (27, 0)),
         refuses("P12, first byte gone", without_first(p12()), (27, 0)),
+        gives("P12 in a long window", p12_far_in(), far_caller),
         gives("two pushed", two_pushed(), pushed_caller),
         refuses(
             "two pushed, last byte gone",

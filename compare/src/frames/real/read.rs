@@ -103,7 +103,7 @@ fn told<const N: usize>(machine: &Machine<N>, frame: &Json) -> Option<Told<N>> {
     )
 }
 
-fn registers<const N: usize>(machine: &Machine<N>, named: &Json) -> Option<Registers<N>> {
+pub fn registers<const N: usize>(machine: &Machine<N>, named: &Json) -> Option<Registers<N>> {
     let register = |name| named.get(name)?.hex();
     let mut saved = [0; N];
     for (number, name) in saved.iter_mut().zip(machine.saved_names) {
@@ -130,7 +130,7 @@ fn names(list: &Json) -> Option<Vec<String>> {
 }
 
 /// Two hex digits a byte.
-fn bytes(digits: &str) -> Option<Vec<u8>> {
+pub fn bytes(digits: &str) -> Option<Vec<u8>> {
     let byte = |at| u8::from_str_radix(digits.get(at..at + 2)?, 16).ok();
     (0..digits.len()).step_by(2).map(byte).collect()
 }

@@ -1,9 +1,10 @@
 //! Lists filled with functions, and what lies after them.
 
-use super::{Checks, Opened};
+use super::Checks;
 use crate::ffi::section::{self as ours, Cursor, FillAnswer};
 use crate::model;
 use crate::random::Random;
+use crate::sections::opened::Opened;
 use crate::sections::questions;
 
 /// Rooms of lists that are filled, besides one that has room for all.

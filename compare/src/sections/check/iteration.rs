@@ -1,10 +1,11 @@
 //! Iteration from the first cursor on, and steps from any cursor.
 
-use super::{Checks, Opened};
+use super::Checks;
 use crate::ffi::section::{self as ours, Cursor, NextAnswer, FOUND, NONE};
 use crate::model;
 use crate::oracle::section::{Functions, Told};
 use crate::random::Random;
+use crate::sections::opened::Opened;
 use crate::sections::questions;
 
 /// A build's iterator, and the build's place in `BUILDS`.

@@ -1,10 +1,11 @@
 //! The calls that take the lists' places, given any places.
 
-use super::{Checks, Opened};
+use super::Checks;
 use crate::ffi::section::{self as ours, Cursor, Lists};
 use crate::model::{self, Refusal, Section};
 use crate::random::Random;
 use crate::sections::case::Case;
+use crate::sections::opened::Opened;
 use crate::sections::questions;
 use std::fmt::Display;
 

@@ -1,22 +1,32 @@
 //! Lookups at every boundary of a section.
 
-use super::{Checks, Opened};
-use crate::ffi::section as ours;
+use super::Checks;
+use crate::ffi::section::{self as ours, LookupAnswer};
 use crate::model;
 use crate::oracle::section::Told;
 use crate::random::Random;
 use crate::sections::keys::Keys;
+use crate::sections::opened::Opened;
 use crate::sections::questions;
 
+/// An address, with our answer and the model's.
+#[derive(Clone, Copy)]
+pub struct LookedUp {
+    pub address: u32,
+    pub ours: LookupAnswer,
+    pub model: LookupAnswer,
+}
+
 impl Checks {
-    pub(super) fn lookups(&mut self, opened: &Opened, random: &mut Random) {
+    pub(super) fn lookups(&mut self, opened: &Opened, random: &mut Random) -> Vec<LookedUp> {
         let mut keys = Keys::new(&opened.model);
-        for address in questions::addresses(&opened.model, random) {
-            self.lookup(opened, &mut keys, address);
-        }
+        questions::addresses(&opened.model, random)
+            .into_iter()
+            .map(|address| self.lookup(opened, &mut keys, address))
+            .collect()
     }
 
-    fn lookup(&mut self, opened: &Opened, keys: &mut Keys, address: u32) {
+    fn lookup(&mut self, opened: &Opened, keys: &mut Keys, address: u32) -> LookedUp {
         let question = format_args!("lookup {address:#x}");
         let input = || opened.case.asked(question);
         let answer = ours::lookup(opened.section, address);
@@ -36,6 +46,11 @@ impl Checks {
                 known,
                 told,
             );
+        }
+        LookedUp {
+            address,
+            ours: answer,
+            model,
         }
     }
 }

@@ -37,13 +37,7 @@ impl Sides {
         (keys_rise, refusal): (bool, u32),
         (ours, theirs): (Told, Told),
     ) {
-        let reason = match refusal {
-            13 if !BUILDS[build].checks_sums => Some(Reason::Refusal13),
-            _ if !keys_rise => Some(Reason::KeysDoNotRise),
-            14 if !BUILDS[build].checks_sums => Some(Reason::Refusal14),
-            _ => None,
-        };
-        if let Some(reason) = reason {
+        if let Some(reason) = Reason::of(build, keys_rise, refusal) {
             let group = (reason, self.name, BUILDS[build].name);
             return outside.count(group, (case, question), (ours, theirs));
         }

@@ -1,0 +1,829 @@
+/* Calls every function of brasspurse.h. The numbers expected are worked out from document 01. As
+ * far as it goes no two fields of an answer are alike, so that two that changed places are seen. */
+#include "brasspurse.h"
+
+#include <inttypes.h>
+#include <stdio.h>
+#include <string.h>
+
+/* Sizes and places. C99 has no static assertion; an array of -1 elements is refused. */
+
+#define ASSERT(name, condition) typedef char assert_##name[(condition) ? 1 : -1]
+#define SIZE(type, bytes) ASSERT(type, sizeof(struct brasspurse_##type) == (bytes))
+#define PLACE(type, field, at)                                                                     \
+    ASSERT(type##_##field, offsetof(struct brasspurse_##type, field) == (at))
+
+SIZE(lists, 16);
+SIZE(parse_answer, 20);
+SIZE(range_answer, 12);
+SIZE(lookup_answer, 16);
+SIZE(next_answer, 24);
+SIZE(fill_answer, 24);
+SIZE(register_answer, 8);
+SIZE(opcode_x86_64_answer, 12);
+SIZE(opcode_arm64_answer, 8);
+SIZE(permutation_answer, 12);
+SIZE(encoding_answer, 8);
+SIZE(rule_x86_64_answer, 32);
+SIZE(rule_arm64_answer, 64);
+SIZE(registers_x86_64, 64);
+SIZE(registers_arm64, 176);
+SIZE(step_x86_64_answer, 72);
+SIZE(step_arm64_answer, 184);
+SIZE(unwind_x86_64_answer, 80);
+SIZE(unwind_arm64_answer, 192);
+SIZE(read_answer, 16);
+
+PLACE(lookup_answer, probes, 12);
+PLACE(lookup_answer, outcome, 14);
+PLACE(lookup_answer, refusal, 15);
+PLACE(rule_x86_64_answer, below, 20);
+PLACE(rule_arm64_answer, below, 20);
+PLACE(unwind_x86_64_answer, registers, 16);
+PLACE(unwind_arm64_answer, registers, 16);
+PLACE(read_answer, value, 8);
+
+/* Document 01's numbers. The calls below hold the library to the same names. */
+
+#define NUMBER(name, number) ASSERT(name, BRASSPURSE_##name == (number))
+
+NUMBER(NOT_REFUSED, 0);
+NUMBER(REFUSED_HEADER, 1);
+NUMBER(REFUSED_GLOBAL_OPCODES, 2);
+NUMBER(REFUSED_PAGES, 3);
+NUMBER(REFUSED_PAGE_KIND, 4);
+NUMBER(REFUSED_UNEXPECTED_SENTINEL_PAGE, 5);
+NUMBER(REFUSED_INVALID_PAGE_KIND, 6);
+NUMBER(REFUSED_REGULAR_PAGE, 7);
+NUMBER(REFUSED_REGULAR_PAGE_FUNCTIONS, 8);
+NUMBER(REFUSED_COMPRESSED_PAGE, 9);
+NUMBER(REFUSED_COMPRESSED_PAGE_FUNCTIONS, 10);
+NUMBER(REFUSED_LOCAL_OPCODES, 11);
+NUMBER(REFUSED_INVALID_PAGE_ENTRY_FIRST_ADDRESS, 12);
+NUMBER(REFUSED_ADDRESS_TOO_LARGE, 13);
+NUMBER(REFUSED_LOCAL_INDEX, 14);
+NUMBER(REFUSED_NULL, 20);
+NUMBER(REFUSED_DWARF, 21);
+NUMBER(REFUSED_UNRECOGNIZED_KIND, 22);
+NUMBER(REFUSED_INVALID_FRAMELESS, 23);
+NUMBER(REFUSED_NOT_SOUND, 24);
+NUMBER(REFUSED_FRAMELESS_INDIRECT, 25);
+NUMBER(REFUSED_ABOVE_ADDRESSES, 26);
+NUMBER(REFUSED_OUTSIDE_WINDOW, 27);
+NUMBER(REFUSED_LIST, 28);
+NUMBER(REFUSED_INPUT_TOO_LONG, 30);
+
+static unsigned checks, failed;
+
+static void same(int line, const char *what, uint64_t got, uint64_t expected)
+{
+    checks++;
+    if (got == expected)
+        return;
+    failed++;
+    printf("test.c:%d: %s is 0x%" PRIx64 ", expected 0x%" PRIx64 "\n", line, what, got, expected);
+}
+
+#define IS(got, expected) same(__LINE__, #got, got, expected)
+
+#define U16(x) (uint8_t)((x)&0xff), (uint8_t)((x) >> 8 & 0xff)
+#define U32(x) U16((x)&0xffff), U16((x) >> 16 & 0xffff)
+#define U64(x) U32((x)&0xffffffff), U32((x) >> 32)
+
+/* A value of eight different bytes. */
+#define V(n) (0xa1b2c3d4e5f60700 + (uint64_t)(n))
+
+/* Words. FIELDS: offset 48; r13, rbx, r15, r12, r14. PUSHES: size 80; six registers by permutation
+ * 261 = 2*120 + 0*24 + 3*6 + 1*2 + 1, so r13, rbx, rbp, r14, r15, r12. INDIRECT: the same ones,
+ * place 42, adjust 40. PAIRS: all nine. */
+#define FIELDS 0x0106454b
+#define PUSHES 0x020a1905
+#define INDIRECT 0x032ab905
+#define PAIRS 0x040001ff
+
+/* Document 01's section S. */
+static const uint8_t S[80] = {
+    U32(1), U32(28), U32(1), U32(32), U32(0), U32(32), U32(2),      /* header */
+    U32(0x01010001),                                                /* global opcode */
+    U32(0x1000), U32(56), U32(0), U32(0x1100), U32(0), U32(0),      /* pages */
+    U32(3), U16(12), U16(2), U16(20), U16(1),                       /* page 0, compressed */
+    U32(0x00000000), U32(0x01000040), U32(0x02030800),
+};
+
+/* Three pages, so that cursors are not near 0. */
+static const uint8_t T[172] = {
+    U32(1), U32(28), U32(3), U32(40), U32(0), U32(40), U32(4),      /* header */
+    U32(0x01010001), U32(0x02030800), U32(0x04abcdef),              /* global opcodes */
+    U32(0x1000), U32(88), U32(0), U32(0x2000), U32(112), U32(0),    /* pages */
+    U32(0x3000), U32(140), U32(0), U32(0x4000), U32(0), U32(0),
+    U32(2), U16(8), U16(2),                                         /* page 0, regular */
+    U32(0x1000), U32(0x01020001), U32(0x1800), U32(0x01030002),
+    U32(3), U16(12), U16(3), U16(24), U16(1),                       /* page 1, compressed */
+    U32(0x02000000), U32(0x00000300), U32(0x03000700), U32(FIELDS),
+    U32(2), U16(8), U16(3),                                         /* page 2, regular */
+    U32(0x3000), U32(PUSHES), U32(0x3100), U32(0x00000009), U32(0x3700), U32(0x05000000),
+};
+
+static const uint32_t t_functions[8][3] = {
+    {0x1000, 0x1800, 0x01020001}, {0x1800, 0x2000, 0x01030002}, {0x2000, 0x2300, 0x04abcdef},
+    {0x2300, 0x2700, 0x01010001}, {0x2700, 0x3000, FIELDS},     {0x3000, 0x3100, PUSHES},
+    {0x3100, 0x3700, 0x00000009}, {0x3700, 0x4000, 0x05000000},
+};
+
+static const struct brasspurse_lists t_lists = {28, 3, 40, 4};
+
+static void put(uint8_t *section, size_t at, uint32_t number)
+{
+    const uint8_t bytes[4] = {U32(number)};
+    memcpy(section + at, bytes, 4);
+}
+
+/* T, where page 1's last function has an opcode index past the local list. */
+static void wrong_index(uint8_t section[sizeof T])
+{
+    memcpy(section, T, sizeof T);
+    put(section, 132, 0x04000700);
+}
+
+/* T without its header: only the lists say where things are. */
+static void no_header(uint8_t section[sizeof T])
+{
+    memcpy(section, T, sizeof T);
+    memset(section, 0, 28);
+}
+
+static void reads(void)
+{
+    const uint8_t bytes[9] = {1, 2, 3, 4, 5, 6, 7, 8, 9};
+    struct brasspurse_read_answer r;
+
+    r = brasspurse_read_u16(bytes, 9, 1);
+    IS(r.granted, 1);
+    IS(r.value, 0x0302);
+    r = brasspurse_read_u32(bytes, 9, 2);
+    IS(r.granted, 1);
+    IS(r.value, 0x06050403);
+    r = brasspurse_read_u64(bytes, 9, 1);
+    IS(r.granted, 1);
+    IS(r.value, 0x0908070605040302);
+
+    r = brasspurse_read_u16(bytes, 9, 8);
+    IS(r.granted, 0);
+    IS(r.value, 0);
+    r = brasspurse_read_u32(bytes, 9, 6);
+    IS(r.granted, 0);
+    IS(r.value, 0);
+    r = brasspurse_read_u64(bytes, 9, SIZE_MAX);
+    IS(r.granted, 0);
+    IS(r.value, 0);
+
+    IS(brasspurse_is_granted(bytes, 9, 4, 5), true);
+    IS(brasspurse_is_granted(bytes, 9, 4, 6), false);
+    IS(brasspurse_is_granted(bytes, 9, 9, 0), true);
+    IS(brasspurse_is_granted(bytes, 9, 10, 0), false);
+    IS(brasspurse_is_granted(bytes, 9, SIZE_MAX, 2), false);
+    IS(brasspurse_is_granted(bytes, 0, 0, 0), true);
+}
+
+static void permutations(void)
+{
+    const uint8_t list[6] = {3, 1, 6, 4, 5, 2}, twice[6] = {3, 1, 6, 4, 5, 3};
+    struct brasspurse_permutation_answer p;
+    struct brasspurse_encoding_answer e;
+
+    p = brasspurse_decode_permutation_6(6, 261);
+    IS(p.refusal, 0);
+    for (int i = 0; i < 6; i++)
+        IS(p.registers[i], list[i]);
+    p = brasspurse_decode_permutation_6(6, 720);
+    IS(p.refusal, BRASSPURSE_REFUSED_INVALID_FRAMELESS);
+    for (int i = 0; i < 6; i++)
+        IS(p.registers[i], 0);
+
+    e = brasspurse_encode_permutation_6(6, list);
+    IS(e.refusal, 0);
+    IS(e.encoding, 261);
+    e = brasspurse_encode_permutation_6(6, twice);
+    IS(e.refusal, BRASSPURSE_REFUSED_LIST);
+    IS(e.encoding, 0);
+    e = brasspurse_encode_permutation_6(7, list);
+    IS(e.refusal, BRASSPURSE_REFUSED_LIST);
+    IS(e.encoding, 0);
+}
+
+static void word_x86_64(int line, uint32_t word, uint8_t answer, uint32_t value, uint8_t adjust,
+                        const char regs[7])
+{
+    struct brasspurse_opcode_x86_64_answer w = brasspurse_parse_x86_64(word);
+
+    same(line, "answer", w.answer, answer);
+    same(line, "value", w.value, value);
+    same(line, "stack_adjust_in_bytes", w.stack_adjust_in_bytes, adjust);
+    for (int i = 0; i < 6; i++)
+        same(line, "saved_regs", w.saved_regs[i], (uint64_t)(regs[i] - '0'));
+}
+
+static void word_arm64(int line, uint32_t word, uint8_t answer, uint32_t value, uint8_t count,
+                       uint16_t pairs)
+{
+    struct brasspurse_opcode_arm64_answer w = brasspurse_parse_arm64(word);
+
+    same(line, "answer", w.answer, answer);
+    same(line, "value", w.value, value);
+    same(line, "saved_reg_pair_count", w.saved_reg_pair_count, count);
+    same(line, "saved_pairs", w.saved_pairs, pairs);
+}
+
+#define WORD_X86_64(...) word_x86_64(__LINE__, __VA_ARGS__)
+#define WORD_ARM64(...) word_arm64(__LINE__, __VA_ARGS__)
+
+static void words(void)
+{
+    const uint8_t dwarf_numbers[6] = {3, 12, 13, 14, 15, 6};
+    const uint16_t pairs[9] = {
+        BRASSPURSE_PAIR_X19_X20, BRASSPURSE_PAIR_X21_X22, BRASSPURSE_PAIR_X23_X24,
+        BRASSPURSE_PAIR_X25_X26, BRASSPURSE_PAIR_X27_X28, BRASSPURSE_PAIR_D8_D9,
+        BRASSPURSE_PAIR_D10_D11, BRASSPURSE_PAIR_D12_D13, BRASSPURSE_PAIR_D14_D15,
+    };
+    struct brasspurse_register_answer r;
+
+    IS(brasspurse_opcode_kind(0xf6abcdef), 6);
+    IS(brasspurse_opcode_specific_bits(0xf6abcdef), 0xabcdef);
+
+    for (uint8_t n = 1; n <= 6; n++) {
+        r = brasspurse_register_x86_64(n);
+        IS(r.named, 1);
+        IS(r.dwarf_number, dwarf_numbers[n - 1]);
+    }
+    r = brasspurse_register_x86_64(0);
+    IS(r.named, 0);
+    IS(r.dwarf_number, 0);
+    r = brasspurse_register_x86_64(7);
+    IS(r.named, 0);
+    IS(r.dwarf_number, 0);
+
+    WORD_X86_64(0x00abcdef, BRASSPURSE_X86_64_NULL, 0, 0, "000000");
+    WORD_X86_64(FIELDS, BRASSPURSE_X86_64_FRAME_BASED, 48, 0, "315240");
+    WORD_X86_64(PUSHES, BRASSPURSE_X86_64_FRAMELESS_IMMEDIATE, 80, 0, "316452");
+    WORD_X86_64(INDIRECT, BRASSPURSE_X86_64_FRAMELESS_INDIRECT, 42, 40, "316452");
+    WORD_X86_64(0x04abcdef, BRASSPURSE_X86_64_DWARF, 0xabcdef, 0, "000000");
+    WORD_X86_64(0x02001ad0, BRASSPURSE_X86_64_INVALID_FRAMELESS, 0, 0, "000000");
+    WORD_X86_64(0x09abcdef, BRASSPURSE_X86_64_UNRECOGNIZED_KIND, 9, 0, "000000");
+
+    WORD_ARM64(0x00abcdef, BRASSPURSE_ARM64_NULL, 0, 0, 0);
+    WORD_ARM64(0x02abc000, BRASSPURSE_ARM64_FRAMELESS, 43968, 0, 0);
+    WORD_ARM64(0x03abcdef, BRASSPURSE_ARM64_DWARF, 0xabcdef, 0, 0);
+    for (int i = 0; i < 9; i++)
+        WORD_ARM64(0x04000000 + (1u << i), BRASSPURSE_ARM64_FRAME_BASED, 0, 1, pairs[i]);
+    WORD_ARM64(0x04000135, BRASSPURSE_ARM64_FRAME_BASED, 0, 5,
+               BRASSPURSE_PAIR_X19_X20 | BRASSPURSE_PAIR_X23_X24 | BRASSPURSE_PAIR_X27_X28 |
+                   BRASSPURSE_PAIR_D8_D9 | BRASSPURSE_PAIR_D14_D15);
+    WORD_ARM64(0x07abcdef, BRASSPURSE_ARM64_UNRECOGNIZED_KIND, 7, 0, 0);
+}
+
+static void lists(void)
+{
+    uint8_t bare[sizeof T];
+    struct brasspurse_lists other = t_lists;
+    struct brasspurse_parse_answer p;
+    struct brasspurse_range_answer r;
+
+    p = brasspurse_parse(T, sizeof T);
+    IS(p.refusal, 0);
+    IS(p.global_opcodes_offset, 28);
+    IS(p.global_opcodes_len, 3);
+    IS(p.pages_offset, 40);
+    IS(p.pages_len, 4);
+    p = brasspurse_parse(T, 39);
+    IS(p.refusal, BRASSPURSE_REFUSED_GLOBAL_OPCODES);
+    IS(p.global_opcodes_offset, 0);
+    IS(p.global_opcodes_len, 0);
+    IS(p.pages_offset, 0);
+    IS(p.pages_len, 0);
+    p = brasspurse_parse(T, 0);
+    IS(p.refusal, BRASSPURSE_REFUSED_HEADER);
+
+    r = brasspurse_address_range(T, sizeof T);
+    IS(r.refusal, 0);
+    IS(r.start, 0x1000);
+    IS(r.end, 0x4000);
+    r = brasspurse_address_range(T, 87);
+    IS(r.refusal, BRASSPURSE_REFUSED_PAGES);
+    IS(r.start, 0);
+    IS(r.end, 0);
+
+    no_header(bare);
+    other.pages_offset = 52;
+    other.pages_len = 2;
+    r = brasspurse_address_range_in(bare, sizeof T, other);
+    IS(r.refusal, 0);
+    IS(r.start, 0x2000);
+    IS(r.end, 0x3000);
+    other.global_opcodes_len = 37;
+    r = brasspurse_address_range_in(bare, sizeof T, other);
+    IS(r.refusal, BRASSPURSE_REFUSED_GLOBAL_OPCODES);
+    IS(r.start, 0);
+    IS(r.end, 0);
+
+    IS(brasspurse_is_well_formed(T, sizeof T), true);
+    IS(brasspurse_is_well_formed(bare, sizeof T), true); /* without lists */
+    IS(brasspurse_is_well_formed(S, 80), true);
+    IS(brasspurse_is_well_formed(S, 79), false);
+}
+
+static void is_lookup(int line, struct brasspurse_lookup_answer l, uint32_t start, uint32_t end,
+                      uint32_t opcode, uint16_t probes, uint8_t outcome, uint8_t refusal)
+{
+    same(line, "start", l.start, start);
+    same(line, "end", l.end, end);
+    same(line, "opcode", l.opcode, opcode);
+    same(line, "probes", l.probes, probes);
+    same(line, "outcome", l.outcome, outcome);
+    same(line, "refusal", l.refusal, refusal);
+}
+
+#define IS_LOOKUP(answer, ...) is_lookup(__LINE__, answer, __VA_ARGS__)
+
+static void lookups(void)
+{
+    uint8_t wrong[sizeof T], bare[sizeof T];
+    struct brasspurse_lists other = t_lists;
+
+    wrong_index(wrong);
+    no_header(bare);
+
+    IS_LOOKUP(brasspurse_lookup(S, 80, 0x0fff), 0, 0, 0, 2, BRASSPURSE_LOOKUP_NONE, 0);
+    IS_LOOKUP(brasspurse_lookup(S, 80, 0x1000), 0x1000, 0x1040, 0x01010001, 4,
+              BRASSPURSE_LOOKUP_FUNCTION, 0);
+    IS_LOOKUP(brasspurse_lookup(S, 80, 0x103f), 0x1000, 0x1040, 0x01010001, 4,
+              BRASSPURSE_LOOKUP_FUNCTION, 0);
+    IS_LOOKUP(brasspurse_lookup(S, 80, 0x1040), 0x1040, 0x1100, 0x02030800, 3,
+              BRASSPURSE_LOOKUP_FUNCTION, 0);
+    IS_LOOKUP(brasspurse_lookup(S, 80, 0x1100), 0, 0, 0, 1, BRASSPURSE_LOOKUP_NONE, 0);
+    IS_LOOKUP(brasspurse_lookup(S, 79, 0x1000), 0x1000, 0x1040, 0x01010001, 4,
+              BRASSPURSE_LOOKUP_FUNCTION, 0);
+    IS_LOOKUP(brasspurse_lookup(wrong, sizeof T, 0x2700), 0, 0, 0, 4, BRASSPURSE_LOOKUP_REFUSED,
+              BRASSPURSE_REFUSED_LOCAL_INDEX);
+
+    IS_LOOKUP(brasspurse_lookup_in(bare, sizeof T, t_lists, 0x2400), 0x2300, 0x2700, 0x01010001, 4,
+              BRASSPURSE_LOOKUP_FUNCTION, 0);
+    other.global_opcodes_offset = 32; /* one further: index 0 now names the second */
+    other.global_opcodes_len = 2;
+    IS_LOOKUP(brasspurse_lookup_in(bare, sizeof T, other, 0x2400), 0x2300, 0x2700, 0x02030800, 4,
+              BRASSPURSE_LOOKUP_FUNCTION, 0);
+    other.pages_len = 12;
+    IS_LOOKUP(brasspurse_lookup_in(bare, sizeof T, other, 0x2400), 0, 0, 0, 0,
+              BRASSPURSE_LOOKUP_REFUSED, BRASSPURSE_REFUSED_PAGES);
+}
+
+static void batches(void)
+{
+    const uint32_t addresses[5] = {0x0fff, 0x2400, 0x3700, 0x2700, 0x1000};
+    const uint32_t expected[19] = {
+        0, 0, 0, 0x00000003,                       /* none, 3 probes */
+        0x2300, 0x2700, 0x01010001, 0x00010004,    /* a function, 4 probes */
+        0x3700, 0x4000, 0x05000000, 0x00010004,
+        0, 0, 0, 0x0e020004,                       /* refused with 14, 4 probes */
+        0xeeeeeeee, 0xeeeeeeee, 0xeeeeeeee,        /* not written */
+    };
+    uint32_t answers[19];
+    uint8_t wrong[sizeof T];
+
+    wrong_index(wrong);
+    memset(answers, 0xee, sizeof answers);
+    IS(brasspurse_lookup_batch(wrong, sizeof T, addresses, 5, answers, 19), 4);
+    for (int i = 0; i < 19; i++)
+        IS(answers[i], expected[i]);
+    IS_LOOKUP(brasspurse_batch_answer(answers, 0), 0, 0, 0, 3, BRASSPURSE_LOOKUP_NONE, 0);
+    IS_LOOKUP(brasspurse_batch_answer(answers, 1), 0x2300, 0x2700, 0x01010001, 4,
+              BRASSPURSE_LOOKUP_FUNCTION, 0);
+    IS_LOOKUP(brasspurse_batch_answer(answers, 3), 0, 0, 0, 4, BRASSPURSE_LOOKUP_REFUSED, 14);
+
+    /* More room than addresses; a section that does not parse. */
+    memset(answers, 0xee, sizeof answers);
+    IS(brasspurse_lookup_batch(S, 27, addresses, 2, answers, 19), 2);
+    IS_LOOKUP(brasspurse_batch_answer(answers, 0), 0, 0, 0, 0, BRASSPURSE_LOOKUP_REFUSED,
+              BRASSPURSE_REFUSED_HEADER);
+    IS_LOOKUP(brasspurse_batch_answer(answers, 1), 0, 0, 0, 0, BRASSPURSE_LOOKUP_REFUSED,
+              BRASSPURSE_REFUSED_HEADER);
+    IS(answers[8], 0xeeeeeeee);
+    IS(brasspurse_lookup_batch(S, 80, addresses, 0, answers, 19), 0);
+    IS(brasspurse_lookup_batch(S, 80, addresses, 5, answers, 3), 0);
+}
+
+static void is_next(int line, struct brasspurse_next_answer n, uint32_t start, uint32_t end,
+                    uint32_t opcode, uint32_t page, uint32_t index, uint16_t outcome,
+                    uint16_t refusal)
+{
+    same(line, "start", n.start, start);
+    same(line, "end", n.end, end);
+    same(line, "opcode", n.opcode, opcode);
+    same(line, "page", n.page, page);
+    same(line, "index", n.index, index);
+    same(line, "outcome", n.outcome, outcome);
+    same(line, "refusal", n.refusal, refusal);
+}
+
+#define IS_NEXT(answer, ...) is_next(__LINE__, answer, __VA_ARGS__)
+
+static void is_fill(int line, struct brasspurse_fill_answer f, size_t functions, uint32_t page,
+                    uint32_t index, uint16_t outcome, uint16_t refusal)
+{
+    same(line, "functions", f.functions, functions);
+    same(line, "page", f.page, page);
+    same(line, "index", f.index, index);
+    same(line, "outcome", f.outcome, outcome);
+    same(line, "refusal", f.refusal, refusal);
+}
+
+#define IS_FILL(answer, ...) is_fill(__LINE__, answer, __VA_ARGS__)
+
+/* `out` has functions of T from `first` on, then what was there before. It is marked anew. */
+static void is_listed(int line, uint32_t out[26], size_t first, size_t count)
+{
+    for (size_t i = 0; i < 3 * count; i++)
+        same(line, "out", out[i], t_functions[first + i / 3][i % 3]);
+    for (size_t i = 3 * count; i < 26; i++)
+        same(line, "out", out[i], 0xeeeeeeee);
+    memset(out, 0xee, 26 * sizeof out[0]);
+}
+
+#define IS_LISTED(...) is_listed(__LINE__, __VA_ARGS__)
+
+static void iteration(void)
+{
+    uint8_t wrong[sizeof T], bare[sizeof T];
+    uint32_t out[26];
+    struct brasspurse_lists other = t_lists;
+
+    wrong_index(wrong);
+    no_header(bare);
+    other.pages_len = 12;
+
+    IS_NEXT(brasspurse_next(T, sizeof T, 2, 2), 0x3700, 0x4000, 0x05000000, 2, 3,
+            BRASSPURSE_NEXT_FUNCTION, 0);
+    IS_NEXT(brasspurse_next(T, sizeof T, 1, 9), 0x3000, 0x3100, PUSHES, 2, 1,
+            BRASSPURSE_NEXT_FUNCTION, 0);
+    IS_NEXT(brasspurse_next(T, sizeof T, 7, 5), 0, 0, 0, 3, 0, BRASSPURSE_NEXT_END, 0);
+    IS_NEXT(brasspurse_next(wrong, sizeof T, 1, 2), 0, 0, 0, 1, 3, BRASSPURSE_NEXT_REFUSED,
+            BRASSPURSE_REFUSED_LOCAL_INDEX);
+
+    IS_NEXT(brasspurse_next_in(bare, sizeof T, t_lists, 2, 2), 0x3700, 0x4000, 0x05000000, 2, 3,
+            BRASSPURSE_NEXT_FUNCTION, 0);
+    IS_NEXT(brasspurse_next_in(bare, sizeof T, other, 5, 7), 0, 0, 0, 5, 7,
+            BRASSPURSE_NEXT_REFUSED, BRASSPURSE_REFUSED_PAGES);
+
+    memset(out, 0xee, sizeof out);
+    IS_FILL(brasspurse_fill(T, sizeof T, 0, 0, out, 26), 8, 2, 3, BRASSPURSE_FILL_FULL, 0);
+    IS_LISTED(out, 0, 8);
+    IS_FILL(brasspurse_fill(T, sizeof T, 2, 3, out, 26), 0, 3, 0, BRASSPURSE_FILL_END, 0);
+    IS_LISTED(out, 0, 0);
+    IS_FILL(brasspurse_fill(T, sizeof T, 5, 7, out, 2), 0, 5, 7, BRASSPURSE_FILL_FULL, 0);
+    IS_FILL(brasspurse_fill(T, sizeof T, 5, 7, out, 0), 0, 5, 7, BRASSPURSE_FILL_FULL, 0);
+    IS_LISTED(out, 0, 0);
+    IS_FILL(brasspurse_fill(wrong, sizeof T, 0, 0, out, 26), 4, 1, 3, BRASSPURSE_FILL_REFUSED,
+            BRASSPURSE_REFUSED_LOCAL_INDEX);
+    IS_LISTED(out, 0, 4);
+
+    IS_FILL(brasspurse_fill_in(bare, sizeof T, t_lists, 1, 1, out, 15), 5, 2, 3,
+            BRASSPURSE_FILL_FULL, 0);
+    IS_LISTED(out, 3, 5);
+    IS_FILL(brasspurse_fill_in(bare, sizeof T, t_lists, 2, 1, out, 26), 2, 3, 0,
+            BRASSPURSE_FILL_END, 0);
+    IS_LISTED(out, 6, 2);
+    IS_FILL(brasspurse_fill_in(bare, sizeof T, other, 5, 7, out, 26), 0, 5, 7,
+            BRASSPURSE_FILL_REFUSED, BRASSPURSE_REFUSED_PAGES);
+    IS_LISTED(out, 0, 0);
+}
+
+/* Registers that differ from each other and from all in a window. */
+static struct brasspurse_registers_x86_64 x86_64(uint64_t rsp, uint64_t rbp)
+{
+    struct brasspurse_registers_x86_64 r = {0xd1, rsp, {0xd2, 0xd3, 0xd4, 0xd5, 0xd6, rbp}};
+    return r;
+}
+
+static struct brasspurse_registers_arm64 arm64(uint64_t sp, uint64_t x29)
+{
+    struct brasspurse_registers_arm64 r = {0xd1, sp, {0}};
+
+    for (uint64_t i = 0; i < 20; i++)
+        r.saved[i] = 0xe0 + i;
+    r.saved[BRASSPURSE_X29] = x29;
+    return r;
+}
+
+static void is_x86_64(int line, struct brasspurse_registers_x86_64 r,
+                      struct brasspurse_registers_x86_64 expected)
+{
+    same(line, "rip", r.rip, expected.rip);
+    same(line, "rsp", r.rsp, expected.rsp);
+    for (int i = 0; i < 6; i++)
+        same(line, "saved", r.saved[i], expected.saved[i]);
+}
+
+static void is_arm64(int line, struct brasspurse_registers_arm64 r,
+                     struct brasspurse_registers_arm64 expected)
+{
+    same(line, "pc", r.pc, expected.pc);
+    same(line, "sp", r.sp, expected.sp);
+    for (int i = 0; i < 20; i++)
+        same(line, "saved", r.saved[i], expected.saved[i]);
+}
+
+/* The frames of FIELDS, PUSHES and PAIRS, lowest slot first. V(i) belongs to saved register i, and
+ * V(30) is the return address, which in PAIRS is x30's, V(11). */
+static const uint8_t fields_frame[64] = {
+    U64(V(2)), U64(V(0)), U64(V(4)), U64(V(1)), U64(V(3)), U64(V(40)), U64(V(5)), U64(V(30)),
+};
+static const uint8_t pushes_frame[56] = {
+    U64(V(2)), U64(V(0)), U64(V(5)), U64(V(3)), U64(V(4)), U64(V(1)), U64(V(30)),
+};
+static const uint8_t pairs_frame[160] = {
+    U64(V(19)), U64(V(18)), U64(V(17)), U64(V(16)), U64(V(15)), U64(V(14)), U64(V(13)), U64(V(12)),
+    U64(V(9)),  U64(V(8)),  U64(V(7)),  U64(V(6)),  U64(V(5)),  U64(V(4)),  U64(V(3)),  U64(V(2)),
+    U64(V(1)),  U64(V(0)),  U64(V(10)), U64(V(11)),
+};
+
+/* What these frames give back. */
+static struct brasspurse_registers_x86_64 x86_64_caller(uint64_t cfa)
+{
+    struct brasspurse_registers_x86_64 r = {V(30), cfa, {V(0), V(1), V(2), V(3), V(4), V(5)}};
+    return r;
+}
+
+static struct brasspurse_registers_arm64 arm64_caller(uint64_t cfa)
+{
+    struct brasspurse_registers_arm64 r = {V(11), cfa, {0}};
+
+    for (uint64_t i = 0; i < 20; i++)
+        r.saved[i] = V(i);
+    return r;
+}
+
+static void rule_x86_64(int line, uint32_t word, uint32_t refusal, uint32_t value,
+                        uint64_t distance, uint32_t reg, const uint16_t below[6])
+{
+    struct brasspurse_rule_x86_64_answer r = brasspurse_rule_x86_64(word);
+
+    same(line, "refusal", r.refusal, refusal);
+    same(line, "value", r.value, value);
+    same(line, "cfa_distance", r.cfa_distance, distance);
+    same(line, "cfa_register", r.cfa_register, reg);
+    for (int i = 0; i < 6; i++)
+        same(line, "below", r.below[i], below[i]);
+}
+
+static void rule_arm64(int line, uint32_t word, uint32_t refusal, uint32_t value,
+                       uint64_t distance, uint32_t reg, const uint16_t below[20])
+{
+    struct brasspurse_rule_arm64_answer r = brasspurse_rule_arm64(word);
+
+    same(line, "refusal", r.refusal, refusal);
+    same(line, "value", r.value, value);
+    same(line, "cfa_distance", r.cfa_distance, distance);
+    same(line, "cfa_register", r.cfa_register, reg);
+    for (int i = 0; i < 20; i++)
+        same(line, "below", r.below[i], below[i]);
+}
+
+#define RULE_X86_64(...) rule_x86_64(__LINE__, __VA_ARGS__)
+#define RULE_ARM64(...) rule_arm64(__LINE__, __VA_ARGS__)
+
+static void rules(void)
+{
+    const uint16_t fields[6] = {
+        [BRASSPURSE_R13] = 64, [BRASSPURSE_RBX] = 56, [BRASSPURSE_R15] = 48,
+        [BRASSPURSE_R12] = 40, [BRASSPURSE_R14] = 32, [BRASSPURSE_RBP] = 16,
+    };
+    const uint16_t pushes[6] = {
+        [BRASSPURSE_R13] = 56, [BRASSPURSE_RBX] = 48, [BRASSPURSE_RBP] = 40,
+        [BRASSPURSE_R14] = 32, [BRASSPURSE_R15] = 24, [BRASSPURSE_R12] = 16,
+    };
+    const uint16_t pairs[20] = {
+        [BRASSPURSE_X30] = 8,   [BRASSPURSE_X29] = 16,  [BRASSPURSE_X19] = 24,
+        [BRASSPURSE_X20] = 32,  [BRASSPURSE_X21] = 40,  [BRASSPURSE_X22] = 48,
+        [BRASSPURSE_X23] = 56,  [BRASSPURSE_X24] = 64,  [BRASSPURSE_X25] = 72,
+        [BRASSPURSE_X26] = 80,  [BRASSPURSE_X27] = 88,  [BRASSPURSE_X28] = 96,
+        [BRASSPURSE_D8] = 104,  [BRASSPURSE_D9] = 112,  [BRASSPURSE_D10] = 120,
+        [BRASSPURSE_D11] = 128, [BRASSPURSE_D12] = 136, [BRASSPURSE_D13] = 144,
+        [BRASSPURSE_D14] = 152, [BRASSPURSE_D15] = 160,
+    };
+    const uint16_t nothing[20] = {0};
+
+    RULE_X86_64(FIELDS, 0, 0, 16, BRASSPURSE_CFA_FRAME_POINTER, fields);
+    RULE_X86_64(PUSHES, 0, 0, 80, BRASSPURSE_CFA_STACK_POINTER, pushes);
+    RULE_X86_64(0x00abcdef, BRASSPURSE_REFUSED_NULL, 0, 0, 0, nothing);
+    RULE_X86_64(0x04abcdef, BRASSPURSE_REFUSED_DWARF, 0xabcdef, 0, 0, nothing);
+    RULE_X86_64(0x09abcdef, BRASSPURSE_REFUSED_UNRECOGNIZED_KIND, 9, 0, 0, nothing);
+    RULE_X86_64(0x02001ad0, BRASSPURSE_REFUSED_INVALID_FRAMELESS, 0, 0, 0, nothing);
+    RULE_X86_64(0x01000001, BRASSPURSE_REFUSED_NOT_SOUND, 0, 0, 0, nothing);
+    RULE_X86_64(INDIRECT, BRASSPURSE_REFUSED_FRAMELESS_INDIRECT, 0, 0, 0, nothing);
+
+    RULE_ARM64(PAIRS, 0, 0, 16, BRASSPURSE_CFA_FRAME_POINTER, pairs);
+    RULE_ARM64(0x02abc000, 0, 0, 43968, BRASSPURSE_CFA_STACK_POINTER, nothing);
+    RULE_ARM64(0x00abcdef, BRASSPURSE_REFUSED_NULL, 0, 0, 0, nothing);
+    RULE_ARM64(0x03abcdef, BRASSPURSE_REFUSED_DWARF, 0xabcdef, 0, 0, nothing);
+    RULE_ARM64(0x07abcdef, BRASSPURSE_REFUSED_UNRECOGNIZED_KIND, 7, 0, 0, nothing);
+}
+
+#define IS_STEP_X86_64(answer, number, says, after)                                                \
+    do {                                                                                           \
+        struct brasspurse_step_x86_64_answer s = answer;                                           \
+        IS(s.refusal, number);                                                                     \
+        IS(s.value, says);                                                                         \
+        is_x86_64(__LINE__, s.registers, after);                                                   \
+    } while (0)
+
+#define IS_STEP_ARM64(answer, number, says, after)                                                 \
+    do {                                                                                           \
+        struct brasspurse_step_arm64_answer s = answer;                                            \
+        IS(s.refusal, number);                                                                     \
+        IS(s.value, says);                                                                         \
+        is_arm64(__LINE__, s.registers, after);                                                    \
+    } while (0)
+
+static void steps(void)
+{
+    const struct brasspurse_registers_x86_64 x = x86_64(0x7000, 0x7030);
+    const struct brasspurse_registers_x86_64 up = x86_64(0x7000, UINT64_MAX - 15);
+    const struct brasspurse_registers_arm64 a = arm64(0x8000, 0x8090);
+    struct brasspurse_registers_arm64 leaf = a;
+
+    IS_STEP_X86_64(brasspurse_step_x86_64(FIELDS, x, 0x7000, fields_frame, 64), 0, 0,
+                   x86_64_caller(0x7040));
+    /* The list lies at the top of the 80 bytes. */
+    IS_STEP_X86_64(brasspurse_step_x86_64(PUSHES, x, 0x7018, pushes_frame, 56), 0, 0,
+                   x86_64_caller(0x7050));
+    IS_STEP_X86_64(brasspurse_step_x86_64(0, x, 0x7000, fields_frame, 64),
+                   BRASSPURSE_REFUSED_NULL, 0, x);
+    IS_STEP_X86_64(brasspurse_step_x86_64(0x04abcdef, x, 0x7000, fields_frame, 64),
+                   BRASSPURSE_REFUSED_DWARF, 0xabcdef, x);
+    IS_STEP_X86_64(brasspurse_step_x86_64(0x09abcdef, x, 0x7000, fields_frame, 64),
+                   BRASSPURSE_REFUSED_UNRECOGNIZED_KIND, 9, x);
+    IS_STEP_X86_64(brasspurse_step_x86_64(FIELDS, x, UINT64_MAX, fields_frame, 1),
+                   BRASSPURSE_REFUSED_ABOVE_ADDRESSES, 0, x);
+    IS_STEP_X86_64(brasspurse_step_x86_64(FIELDS, up, 0x7000, fields_frame, 64),
+                   BRASSPURSE_REFUSED_ABOVE_ADDRESSES, 0, up);
+    IS_STEP_X86_64(brasspurse_step_x86_64(FIELDS, x, 0x7000, fields_frame, 63),
+                   BRASSPURSE_REFUSED_OUTSIDE_WINDOW, 0, x);
+    IS_STEP_X86_64(brasspurse_step_x86_64(FIELDS, x, UINT64_MAX, fields_frame, 0),
+                   BRASSPURSE_REFUSED_OUTSIDE_WINDOW, 0, x);
+
+    IS_STEP_ARM64(brasspurse_step_arm64(PAIRS, a, 0x8000, pairs_frame, 160), 0, 0,
+                  arm64_caller(0x80a0));
+    leaf.pc = a.saved[BRASSPURSE_X30];
+    leaf.sp = 0x8000 + 43968;
+    IS_STEP_ARM64(brasspurse_step_arm64(0x02abc000, a, 0x8000, pairs_frame, 0), 0, 0, leaf);
+    IS_STEP_ARM64(brasspurse_step_arm64(0x03abcdef, a, 0x8000, pairs_frame, 160),
+                  BRASSPURSE_REFUSED_DWARF, 0xabcdef, a);
+    IS_STEP_ARM64(brasspurse_step_arm64(0x07abcdef, a, 0x8000, pairs_frame, 160),
+                  BRASSPURSE_REFUSED_UNRECOGNIZED_KIND, 7, a);
+    IS_STEP_ARM64(brasspurse_step_arm64(PAIRS, a, UINT64_MAX, pairs_frame, 1),
+                  BRASSPURSE_REFUSED_ABOVE_ADDRESSES, 0, a);
+    IS_STEP_ARM64(brasspurse_step_arm64(PAIRS, a, 0x8001, pairs_frame, 160),
+                  BRASSPURSE_REFUSED_OUTSIDE_WINDOW, 0, a);
+}
+
+#define IS_UNWIND_X86_64(answer, number, says, looked, after)                                      \
+    do {                                                                                           \
+        struct brasspurse_unwind_x86_64_answer u = answer;                                         \
+        IS(u.refusal, number);                                                                     \
+        IS(u.value, says);                                                                         \
+        IS(u.probes, looked);                                                                      \
+        is_x86_64(__LINE__, u.registers, after);                                                   \
+    } while (0)
+
+#define IS_UNWIND_ARM64(answer, number, says, looked, after)                                       \
+    do {                                                                                           \
+        struct brasspurse_unwind_arm64_answer u = answer;                                          \
+        IS(u.refusal, number);                                                                     \
+        IS(u.value, says);                                                                         \
+        IS(u.probes, looked);                                                                      \
+        is_arm64(__LINE__, u.registers, after);                                                    \
+    } while (0)
+
+static void unwinding(void)
+{
+    /* Document 01's P12: rbx, rbp and the return address from 0x7000 on. */
+    const uint8_t window[24] = {U64(V(0)), U64(V(5)), U64(V(30))};
+    const struct brasspurse_registers_x86_64 x = x86_64(0x6ff0, 0x7008);
+    const struct brasspurse_registers_x86_64 y = x86_64(0x7000, 0x7030);
+    const struct brasspurse_registers_arm64 a = arm64(0x7ff0, 0x8090);
+    struct brasspurse_registers_x86_64 after = x;
+    uint8_t wrong[sizeof T], arm[sizeof S];
+
+    after.rip = V(30);
+    after.rsp = 0x7018;
+    after.saved[BRASSPURSE_RBX] = V(0);
+    after.saved[BRASSPURSE_RBP] = V(5);
+    IS_UNWIND_X86_64(brasspurse_unwind_x86_64(S, 80, 0x1010, x, 0x7000, window, 24), 0, 0, 4,
+                     after);
+    IS_UNWIND_X86_64(brasspurse_unwind_x86_64(T, sizeof T, 0x2800, y, 0x7000, fields_frame, 64), 0,
+                     0, 4, x86_64_caller(0x7040));
+    IS_UNWIND_X86_64(brasspurse_unwind_x86_64(S, 80, 0x1010, x, 0x7000, window, 23),
+                     BRASSPURSE_REFUSED_OUTSIDE_WINDOW, 0, 4, x);
+    IS_UNWIND_X86_64(brasspurse_unwind_x86_64(S, 80, 0x1010, x, UINT64_MAX, window, 24),
+                     BRASSPURSE_REFUSED_ABOVE_ADDRESSES, 0, 4, x);
+    IS_UNWIND_X86_64(brasspurse_unwind_x86_64(S, 80, 0x1100, x, 0x7000, window, 24),
+                     BRASSPURSE_REFUSED_NULL, 0, 1, x); /* no function */
+    IS_UNWIND_X86_64(brasspurse_unwind_x86_64(T, sizeof T, 0x3100, x, 0x7000, window, 24),
+                     BRASSPURSE_REFUSED_NULL, 0, 4, x); /* a null word */
+    IS_UNWIND_X86_64(brasspurse_unwind_x86_64(T, sizeof T, 0x2000, x, 0x7000, window, 24),
+                     BRASSPURSE_REFUSED_DWARF, 0xabcdef, 4, x);
+    IS_UNWIND_X86_64(brasspurse_unwind_x86_64(T, sizeof T, 0x3700, x, 0x7000, window, 24),
+                     BRASSPURSE_REFUSED_UNRECOGNIZED_KIND, 5, 4, x);
+    wrong_index(wrong);
+    IS_UNWIND_X86_64(brasspurse_unwind_x86_64(wrong, sizeof T, 0x2700, x, 0x7000, window, 24),
+                     BRASSPURSE_REFUSED_LOCAL_INDEX, 0, 4, x);
+    IS_UNWIND_X86_64(brasspurse_unwind_x86_64(S, 79, 0x1040, x, 0x7000, window, 24),
+                     BRASSPURSE_REFUSED_LOCAL_OPCODES, 0, 3, x);
+
+    memcpy(arm, S, sizeof S);
+    put(arm, 28, PAIRS);
+    put(arm, 76, 0x03123456);
+    IS_UNWIND_ARM64(brasspurse_unwind_arm64(arm, 80, 0x1010, a, 0x8000, pairs_frame, 160), 0, 0, 4,
+                    arm64_caller(0x80a0));
+    IS_UNWIND_ARM64(brasspurse_unwind_arm64(arm, 80, 0x1010, a, 0x8001, pairs_frame, 160),
+                    BRASSPURSE_REFUSED_OUTSIDE_WINDOW, 0, 4, a);
+    IS_UNWIND_ARM64(brasspurse_unwind_arm64(arm, 80, 0x1050, a, 0x8000, pairs_frame, 160),
+                    BRASSPURSE_REFUSED_DWARF, 0x123456, 3, a);
+    IS_UNWIND_ARM64(brasspurse_unwind_arm64(arm, 80, 0x1100, a, 0x8000, pairs_frame, 160),
+                    BRASSPURSE_REFUSED_NULL, 0, 1, a);
+    IS_UNWIND_ARM64(brasspurse_unwind_arm64(arm, 79, 0x1050, a, 0x8000, pairs_frame, 160),
+                    BRASSPURSE_REFUSED_LOCAL_OPCODES, 0, 3, a);
+}
+
+/* Each refusal of a section, from S: cut to `len` bytes, and with the number at `at` changed (at 0
+ * is the version, which is not looked at). */
+static void section_refusals(void)
+{
+    const struct {
+        uint8_t refusal;
+        size_t len;
+        size_t at;
+        uint32_t number;
+        uint16_t probes;
+    } rows[] = {
+        {BRASSPURSE_REFUSED_HEADER, 27, 0, 1, 0},
+        {BRASSPURSE_REFUSED_GLOBAL_OPCODES, 31, 0, 1, 0},
+        {BRASSPURSE_REFUSED_PAGES, 55, 0, 1, 0},
+        {BRASSPURSE_REFUSED_PAGE_KIND, 59, 0, 1, 2},
+        {BRASSPURSE_REFUSED_UNEXPECTED_SENTINEL_PAGE, 80, 56, 1, 2},
+        {BRASSPURSE_REFUSED_INVALID_PAGE_KIND, 80, 56, 4, 2},
+        {BRASSPURSE_REFUSED_REGULAR_PAGE, 63, 56, 2, 2},
+        {BRASSPURSE_REFUSED_REGULAR_PAGE_FUNCTIONS, 80, 56, 2, 2},
+        {BRASSPURSE_REFUSED_COMPRESSED_PAGE, 67, 0, 1, 2},
+        {BRASSPURSE_REFUSED_COMPRESSED_PAGE_FUNCTIONS, 75, 0, 1, 2},
+        {BRASSPURSE_REFUSED_LOCAL_OPCODES, 79, 0, 1, 3},
+        {BRASSPURSE_REFUSED_LOCAL_INDEX, 80, 72, 0x02000040, 3},
+    };
+    uint8_t section[sizeof S];
+    uint32_t out[6];
+
+    for (size_t i = 0; i < sizeof rows / sizeof rows[0]; i++) {
+        const uint8_t n = rows[i].refusal;
+        const size_t len = rows[i].len;
+
+        memcpy(section, S, sizeof S);
+        put(section, rows[i].at, rows[i].number);
+        IS_LOOKUP(brasspurse_lookup(section, len, 0x1040), 0, 0, 0, rows[i].probes,
+                  BRASSPURSE_LOOKUP_REFUSED, n);
+        /* The cursor stays, goes past the page, or past the function. */
+        IS_NEXT(brasspurse_next(section, len, 0, 1), 0, 0, 0, n >= 4 && n <= 11,
+                n <= 3 ? 1 : n <= 11 ? 0 : 2, BRASSPURSE_NEXT_REFUSED, n);
+        IS_FILL(brasspurse_fill(section, len, 0, 1, out, 6), 0, n >= 4 && n <= 11,
+                n <= 3 ? 1 : n <= 11 ? 0 : 2, BRASSPURSE_FILL_REFUSED, n);
+        IS(brasspurse_is_well_formed(section, len), false);
+    }
+
+    memcpy(section, S, sizeof S);
+    put(section, 68, 0x00000010); /* the first function starts after its page */
+    IS_LOOKUP(brasspurse_lookup(section, 80, 0x1000), 0, 0, 0, 4, BRASSPURSE_LOOKUP_REFUSED,
+              BRASSPURSE_REFUSED_INVALID_PAGE_ENTRY_FIRST_ADDRESS);
+
+    memcpy(section, S, sizeof S);
+    put(section, 32, 0xfffffff0); /* the second function starts at 0x100000030 */
+    put(section, 44, 0xffffffff);
+    IS_LOOKUP(brasspurse_lookup(section, 80, 0xfffffff5), 0, 0, 0, 4, BRASSPURSE_LOOKUP_REFUSED,
+              BRASSPURSE_REFUSED_ADDRESS_TOO_LARGE);
+    IS_NEXT(brasspurse_next(section, 80, 0, 1), 0, 0, 0, 0, 2, BRASSPURSE_NEXT_REFUSED,
+            BRASSPURSE_REFUSED_ADDRESS_TOO_LARGE);
+}
+
+int main(void)
+{
+    reads();
+    permutations();
+    words();
+    lists();
+    lookups();
+    batches();
+    iteration();
+    rules();
+    steps();
+    unwinding();
+    section_refusals();
+    printf("%u checks, %u failed\n", checks, failed);
+    return failed != 0;
+}

@@ -1,0 +1,150 @@
+-- Answers of four numbers each, written one after the other.
+-- Assumes nothing.
+use Prim.Native.Nat.{ℕ, zero, suc, _+_, _-_, _*_, _/_, _≤_, _<_}
+use mathlib.Core.Path.{_≡_, refl, ap, sym, _∙_}
+use mathlib.Core.List.{List, [], _∷_, _++_, append-nil, append-assoc}
+use native.Mathlib.Omega.{arith}
+use native.Mathlib.Decide.{decLe}
+use borrow.Author.Tests.{le-leb, lt-leb}
+use lib.ListN.{length, getD, take, drop, set, length-append, length-drop, length-take}
+use lib.Seq.{sets, sets-eq, take-suc, take-at, drop-at, drop-drop, drop-append-add, length-take-le, take-all}
+use Rattle.raw.specs.declared.Lists.{Lists}
+use Rattle.raw.specs.Checked.{good}
+use Rattle.raw.specs.Raw.{parseOf}
+use Rattle.lookup.specs.Lookup.{Looked, lookupIn, lookupOn}
+use Rattle.batch.specs.declared.Numbers.{Numbers}
+use Rattle.batch.specs.declared.Four.{Four}
+use Rattle.batch.specs.Batch.{numbersOf, listed, fourOf, answersOf, standing, fewerOf, putOf, batch, batchOf}
+use Rattle.lookup.proofs.One.{after-parse}
+
+-- four numbers set one after the other
+pub set-four : (out : List ℕ) (k : ℕ) (n : Numbers) → 4 * k + 4 ≤ length out
+    → set (set (set (set out (4 * k) (n .start)) (4 * k + 1) (n .end)) (4 * k + 2) (n .opcode)) (4 * k + 3) (n .told) ≡ putOf out k n
+unfolding putOf
+set-four out k n h =
+    let p : 4 * k + 1 ≡ suc (4 * k) = omega arith in
+    let q : 4 * k + 2 ≡ suc (suc (4 * k)) = omega arith in
+    let r : 4 * k + 3 ≡ suc (suc (suc (4 * k))) = omega arith in
+    ap (λ (i : ℕ). set (set (set (set out (4 * k) (n .start)) i (n .end)) (4 * k + 2) (n .opcode)) (4 * k + 3) (n .told)) p
+    ∙ ap (λ (i : ℕ). set (set (set (set out (4 * k) (n .start)) (suc (4 * k)) (n .end)) i (n .opcode)) (4 * k + 3) (n .told)) q
+    ∙ ap (λ (i : ℕ). set (set (set (set out (4 * k) (n .start)) (suc (4 * k)) (n .end)) (suc (suc (4 * k))) (n .opcode)) i (n .told)) r
+    ∙ sets-eq (listed n) out (4 * k) h
+
+pub length-put : (out : List ℕ) (k : ℕ) (n : Numbers) → 4 * k + 4 ≤ length out → length (putOf out k n) ≡ length out
+unfolding putOf
+length-put out k n h =
+    length-append (take (4 * k) out ++ listed n) (drop (4 * k + 4) out)
+    ∙ omega (arith, length-append (take (4 * k) out) (listed n), length-take-le (4 * k) out (omega arith), length-drop (4 * k + 4) out)
+
+module _ (look : ℕ → Looked) where
+  length-answers : (xs : List ℕ) → length (answersOf look xs) ≡ 4 * length xs
+  unfolding answersOf
+  length-answers [] = refl
+  length-answers (x ∷ xs) = length-append (listed (numbersOf (look x))) (answersOf look xs) ∙ omega (arith, length-answers xs)
+
+  answers-append : (xs ys : List ℕ) → answersOf look (xs ++ ys) ≡ answersOf look xs ++ answersOf look ys
+  unfolding answersOf
+  answers-append [] ys = refl
+  answers-append (x ∷ xs) ys = ap (λ (l : List ℕ). listed (numbersOf (look x)) ++ l) (answers-append xs ys) ∙ sym (append-assoc (listed (numbersOf (look x))) (answersOf look xs) (answersOf look ys))
+
+  -- none yet
+  pub none-yet : (xs out : List ℕ) → out ≡ standing look xs out 0
+  unfolding standing answersOf
+  none-yet xs out = refl
+
+  module _ (xs out : List ℕ) (k : ℕ) (h : k < length xs) (room : 4 * k + 4 ≤ length out) where
+    so-far : length (answersOf look (take k xs)) ≡ 4 * k
+    so-far = length-answers (take k xs) ∙ omega (arith, length-take-le k xs (omega arith))
+
+    -- one answer more
+    pub one-more : putOf (standing look xs out k) k (numbersOf (look (getD xs k 0))) ≡ standing look xs out (k + 1)
+    unfolding putOf standing answersOf
+    one-more =
+        let e : drop (4 * k + 4) (answersOf look (take k xs) ++ drop (4 * k) out) ≡ drop (4 * (k + 1)) out = later in
+        let f : take (4 * k) (answersOf look (take k xs) ++ drop (4 * k) out) ≡ answersOf look (take k xs) = take-at (answersOf look (take k xs)) (drop (4 * k) out) (4 * k) so-far in
+        ap (λ (l : List ℕ). l ++ listed (numbersOf (look (getD xs k 0))) ++ drop (4 * k + 4) (answersOf look (take k xs) ++ drop (4 * k) out)) f
+        ∙ ap (λ (l : List ℕ). answersOf look (take k xs) ++ listed (numbersOf (look (getD xs k 0))) ++ l) e
+        ∙ ap (λ (l : List ℕ). l ++ drop (4 * (k + 1)) out) (sym grown)
+      where
+        one-answer : (x : ℕ) → answersOf look (x ∷ []) ≡ listed (numbersOf (look x))
+        one-answer x = append-nil (listed (numbersOf (look x)))
+
+        later : drop (4 * k + 4) (answersOf look (take k xs) ++ drop (4 * k) out) ≡ drop (4 * (k + 1)) out
+        later =
+            let p : 4 * k + 4 ≡ length (answersOf look (take k xs)) + 4 = omega (arith, so-far) in
+            let q : 4 * k + 4 ≡ 4 * (k + 1) = omega arith in
+            ap (λ (i : ℕ). drop i (answersOf look (take k xs) ++ drop (4 * k) out)) p ∙ drop-append-add (answersOf look (take k xs)) (drop (4 * k) out) 4
+            ∙ drop-drop 4 (4 * k) out ∙ ap (λ (i : ℕ). drop i out) q
+
+        grown : answersOf look (take (k + 1) xs) ≡ answersOf look (take k xs) ++ listed (numbersOf (look (getD xs k 0)))
+        grown =
+            let p : k + 1 ≡ suc k = omega arith in
+            ap (λ (i : ℕ). answersOf look (take i xs)) p ∙ ap (answersOf look) (take-suc xs k 0 h) ∙ answers-append (take k xs) (getD xs k 0 ∷ [])
+            ∙ ap (λ (l : List ℕ). answersOf look (take k xs) ++ l) (one-answer (getD xs k 0))
+
+  pub length-standing : (xs out : List ℕ) (k : ℕ) → k ≤ length xs → 4 * k ≤ length out → length (standing look xs out k) ≡ length out
+  unfolding standing
+  length-standing xs out k h t =
+      length-append (answersOf look (take k xs)) (drop (4 * k) out)
+      ∙ omega (arith, length-answers (take k xs), length-take-le k xs h, length-drop (4 * k) out)
+
+  -- four answers more
+  pub four-more : (xs out : List ℕ) (k : ℕ) → k + 4 ≤ length xs → 4 * k + 16 ≤ length out
+      → (q : Four) → q ≡ fourOf look (getD xs k 0) (getD xs (k + 1) 0) (getD xs (k + 2) 0) (getD xs (k + 3) 0)
+      → putOf (putOf (putOf (putOf (standing look xs out k) k (q .a)) (k + 1) (q .b)) (k + 2) (q .c)) (k + 3) (q .d) ≡ standing look xs out (k + 4)
+  four-more xs out k h t q e =
+      let e1 : k + 1 + 1 ≡ k + 2 = omega arith in
+      let e2 : k + 2 + 1 ≡ k + 3 = omega arith in
+      let e3 : k + 3 + 1 ≡ k + 4 = omega arith in
+      ap (λ (v : Four). putOf (putOf (putOf (putOf (standing look xs out k) k (v .a)) (k + 1) (v .b)) (k + 2) (v .c)) (k + 3) (v .d)) e
+      ∙ ap (λ (o : List ℕ). putOf (putOf (putOf o (k + 1) (at 1)) (k + 2) (at 2)) (k + 3) (at 3)) (one-more xs out k (omega arith) (omega arith))
+      ∙ ap (λ (o : List ℕ). putOf (putOf o (k + 2) (at 2)) (k + 3) (at 3)) (one-more xs out (k + 1) (omega arith) (omega arith) ∙ ap (standing look xs out) e1)
+      ∙ ap (λ (o : List ℕ). putOf o (k + 3) (at 3)) (one-more xs out (k + 2) (omega arith) (omega arith) ∙ ap (standing look xs out) e2)
+      ∙ one-more xs out (k + 3) (omega arith) (omega arith) ∙ ap (standing look xs out) e3
+    where
+      at : ℕ → Numbers
+      at i = numbersOf (look (getD xs (k + i) 0))
+
+-- the smaller of two
+module _ (a b : ℕ) where
+  pub is-fewer : a ≤ b → a ≡ fewerOf a b
+  unfolding fewerOf
+  is-fewer h = simp (le-leb a b h)
+
+  pub is-more : b < a → b ≡ fewerOf a b
+  unfolding fewerOf
+  is-more h = simp (lt-leb a b h)
+
+  pub fewer-left : fewerOf a b ≤ a
+  fewer-left = by-order (decLe a b)
+    where
+      by-order : Dec (a ≤ b) → fewerOf a b ≤ a
+      by-order (yes h) = omega (arith, is-fewer h)
+      by-order (no h) = omega (arith, is-more (omega arith))
+
+  pub fewer-right : fewerOf a b ≤ b
+  fewer-right = by-order (decLe a b)
+    where
+      by-order : Dec (a ≤ b) → fewerOf a b ≤ b
+      by-order (yes h) = omega (arith, is-fewer h)
+      by-order (no h) = omega (arith, is-more (omega arith))
+
+pub whole : (s xs out : List ℕ) (n : ℕ) (list : List ℕ) → n ≡ fewerOf (length xs) (length out / 4) → list ≡ standing (lookupOn s) xs out n → batch n list ≡ batchOf s xs out
+unfolding batchOf
+whole s xs out n list e f = ap (batch n) f ∙ ap (λ (k : ℕ). batch k (standing (lookupOn s) xs out k)) e
+
+-- on the lists of a parse
+pub on-bytes : (s : List ℕ) (l : Lists) → parseOf s ≡ good l → (a b c d : ℕ) → fourOf (lookupIn s l) a b c d ≡ fourOf (lookupOn s) a b c d
+on-bytes s l e a b c d = simp (after-parse s l e a, after-parse s l e b, after-parse s l e c, after-parse s l e d)
+
+-- four answers more, and one, as the loops write them
+module _ (s xs first out : List ℕ) (k : ℕ) (e : out ≡ standing (lookupOn s) xs first k) (o : List ℕ) where
+  pub four-on : (l : Lists) → parseOf s ≡ good l → k + 4 ≤ length xs → 4 * k + 16 ≤ length first
+      → (q : Four) → q ≡ fourOf (lookupIn s l) (getD xs k 0) (getD xs (k + 1) 0) (getD xs (k + 2) 0) (getD xs (k + 3) 0)
+      → o ≡ putOf (putOf (putOf (putOf out k (q .a)) (k + 1) (q .b)) (k + 2) (q .c)) (k + 3) (q .d) → o ≡ standing (lookupOn s) xs first (k + 4)
+  four-on l p h t q eq eo =
+      eo ∙ ap (λ (v : List ℕ). putOf (putOf (putOf (putOf v k (q .a)) (k + 1) (q .b)) (k + 2) (q .c)) (k + 3) (q .d)) e
+      ∙ four-more (lookupOn s) xs first k h t q (eq ∙ on-bytes s l p (getD xs k 0) (getD xs (k + 1) 0) (getD xs (k + 2) 0) (getD xs (k + 3) 0))
+
+  pub one-on : k < length xs → 4 * k + 4 ≤ length first → (n : Numbers) → n ≡ numbersOf (lookupOn s (getD xs k 0)) → o ≡ putOf out k n → o ≡ standing (lookupOn s) xs first (k + 1)
+  one-on h t n en eo = eo ∙ ap (λ (v : List ℕ). putOf v k n) e ∙ ap (putOf (standing (lookupOn s) xs first k) k) en ∙ one-more (lookupOn s) xs first k h t

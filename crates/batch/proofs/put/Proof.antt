@@ -1,0 +1,25 @@
+-- `batch::put` meets its contract: the four writes.
+-- Assumes nothing.
+use Rattle.batch.proofs.Batches.{set-four}
+use lib.ListN.{length-set}
+use native.Mathlib.Omega.{arith}
+use borrow.Author.Needs.{needs}
+use Rattle.batch.proofs.put.Statement.{statement}
+use Rattle.batch.proofs.put.Tie as tie
+
+slice-write-out-2 : tie.Need-slice-write-out-2
+slice-write-out-2 c = rw length-set (omega (arith, c .pre))
+
+slice-write-out-3 : tie.Need-slice-write-out-3
+slice-write-out-3 c = rw length-set (rw length-set (omega (arith, c .pre)))
+
+slice-write-out-4 : tie.Need-slice-write-out-4
+slice-write-out-4 c = rw length-set (rw length-set (rw length-set (omega (arith, c .pre))))
+
+returns : tie.Need-returns
+returns c = set-four _ _ _ (c .pre)
+
+pub put-spec : {M : Type 1} → statement M
+put-spec =
+    tie.close
+    (tie.spec (λ c. search needs) (λ c. search needs) (λ c. search needs) (λ c. search needs) (λ c. search needs) slice-write-out-2 (λ c. search needs) (λ c. search needs) slice-write-out-3 (λ c. search needs) (λ c. search needs) slice-write-out-4 (λ c. search needs) returns)

@@ -1,0 +1,7 @@
+pub mod Unwinding
+pub mod Combined
+pub mod Undoes
+pub mod One
+pub mod Worked
+pub mod Apart
+pub mod Viewed

@@ -1,0 +1,16 @@
+//! Opcode words: what they say, machine by machine.
+//!
+//! As in the original, but for the text that `Display` prints, which is ours. 32-bit words
+//! (`OpcodeX86`) are left out. What a word means for a frame is in [`frames`](crate::frames).
+
+#![forbid(unsafe_code)]
+
+mod arm64;
+mod bitfield;
+mod permutation;
+mod x86_64;
+
+pub use arm64::OpcodeArm64;
+pub use bitfield::OpcodeBitfield;
+pub use permutation::{decode_permutation_6, encode_permutation_6};
+pub use x86_64::{OpcodeX86_64, RegisterNameX86_64};

@@ -1,0 +1,228 @@
+//! Real sections and frames, with the answers that stand beside them.
+
+use crate::inputs::{corpus, real_sections};
+use macho_unwind_info::frames::{RegistersArm64, RegistersX86_64};
+use macho_unwind_info::{is_well_formed, Function, LookupAnswer, Refusal, UnwindError, UnwindInfo};
+use std::path::Path;
+
+/// The number that hex digits are.
+fn hex(digits: &str) -> u64 {
+    u64::from_str_radix(digits, 16).unwrap_or_else(|e| panic!("{digits}: {e}"))
+}
+
+fn line(function: &Function) -> String {
+    let Function {
+        start_address,
+        end_address,
+        opcode,
+    } = function;
+    format!("{start_address:08x} {end_address:08x} {opcode:08x}")
+}
+
+#[test]
+fn real_sections_are_iterated_as_listed() {
+    let mut lines = 0;
+    let sections = real_sections();
+    for (path, section) in &sections {
+        // The others' listings are packed.
+        let listed = match std::fs::read_to_string(path.with_extension("txt")) {
+            Ok(listed) => listed,
+            Err(_) => continue,
+        };
+        let mut listed = listed.lines();
+        let mut functions = UnwindInfo::parse(section).unwrap().functions();
+        let mut count = 0;
+        while let Some(function) = functions.next().unwrap() {
+            let line = line(&function);
+            assert_eq!(Some(&line[..]), listed.next(), "{}", path.display());
+            count += 1;
+        }
+        let end = format!("end {count}");
+        assert_eq!(Some(&end[..]), listed.next(), "{}", path.display());
+        lines += count;
+    }
+    assert!(sections.is_empty() || lines > 10_000);
+}
+
+#[test]
+fn real_sections_look_up_as_listed() {
+    let mut compared = 0;
+    let sections = real_sections();
+    for (path, section) in &sections {
+        let lookups = match std::fs::read_to_string(path.with_extension("lookups")) {
+            Ok(lookups) => lookups,
+            Err(_) => continue,
+        };
+        let info = UnwindInfo::parse(section).unwrap();
+        // `pc start end opcode probes`, or `pc none probes`.
+        let listed: Vec<(u32, &str)> = lookups
+            .lines()
+            .map(|line| line.split_once(' ').unwrap())
+            .map(|(address, told)| (hex(address) as u32, told))
+            .collect();
+        let addresses: Vec<u32> = listed.iter().map(|&(address, _)| address).collect();
+        let mut batch = vec![LookupAnswer::default(); addresses.len()];
+        let batch = info.lookup_batch(&addresses, &mut batch);
+        assert_eq!(batch.len(), listed.len());
+        for (&(address, told), in_batch) in listed.iter().zip(batch) {
+            let answer = info.lookup_with_probes(address);
+            let function = info.lookup(address).unwrap();
+            assert_eq!(answer.function().as_ref(), Ok(&function));
+            let function = function.map_or("none".to_owned(), |function| line(&function));
+            let ours = format!("{function} {}", answer.probes());
+            assert_eq!(ours, told, "{address:#x} of {}", path.display());
+            assert_eq!(answer, *in_batch);
+            compared += 1;
+        }
+    }
+    assert!(sections.is_empty() || compared > 1_000);
+}
+
+#[test]
+fn real_sections_are_well_formed_but_for_the_one_that_a_linker_broke() {
+    for (path, section) in real_sections() {
+        let broken = path.ends_with("s_x64_old_broken.bin");
+        assert_eq!(is_well_formed(&section), !broken, "{}", path.display());
+    }
+}
+
+/// A line of a file of frames: one object, in whose texts nothing is escaped.
+struct Frame<'a>(&'a str);
+
+impl<'a> Frame<'a> {
+    /// What stands after a name, from its first appearance on.
+    fn after(&self, name: &str) -> Option<&'a str> {
+        let name = format!("\"{name}\": ");
+        Some(&self.0[self.0.find(&name)? + name.len()..])
+    }
+
+    fn text(&self, name: &str) -> &'a str {
+        let quoted = self.after(name).and_then(|rest| rest.strip_prefix('"'));
+        quoted.unwrap().split('"').next().unwrap()
+    }
+
+    fn number(&self, name: &str) -> u64 {
+        hex(self.text(name).strip_prefix("0x").unwrap())
+    }
+
+    fn object(&self, name: &str) -> Frame<'a> {
+        Frame(self.after(name).unwrap().split('}').next().unwrap())
+    }
+
+    fn window(&self) -> Vec<u8> {
+        let digits = self.text("window");
+        let byte = |at| hex(&digits[at..at + 2]) as u8;
+        (0..digits.len()).step_by(2).map(byte).collect()
+    }
+
+    fn x86_64(&self) -> RegistersX86_64 {
+        RegistersX86_64 {
+            rip: self.number("rip"),
+            rsp: self.number("rsp"),
+            saved: ["rbx", "r12", "r13", "r14", "r15", "rbp"].map(|name| self.number(name)),
+        }
+    }
+
+    fn arm64(&self) -> RegistersArm64 {
+        let mut saved = [0; 20];
+        let names = (19..=30).map(|n| format!("x{n}"));
+        let names = names.chain((8..=15).map(|n| format!("d{n}")));
+        for (register, name) in saved.iter_mut().zip(names) {
+            *register = self.number(&name);
+        }
+        RegistersArm64 {
+            pc: self.number("pc"),
+            sp: self.number("sp"),
+            saved,
+        }
+    }
+
+    /// What the combined call should refuse with, if it should.
+    fn refused(&self) -> Option<(u32, u32)> {
+        if self.after("expect_refused").is_some() {
+            assert!(self.after("expect_refused").unwrap().starts_with("21,"));
+            return Some((21, self.number("dwarf_bits") as u32));
+        }
+        // Code is there for the words that need it.
+        self.after("code").map(|_| (25, 0))
+    }
+}
+
+#[test]
+fn real_frames_give_the_callers_that_the_processor_had() {
+    let corpus = match corpus() {
+        Some(corpus) => corpus,
+        None => return,
+    };
+    let (mut callers, mut refusals) = ([0; 2], 0);
+    for name in ["ox_asm", "ox_c", "oa_c", "oa_pairs"] {
+        let section = std::fs::read(corpus.join(format!("sections/{name}.bin"))).unwrap();
+        let info = UnwindInfo::parse(&section).unwrap();
+        for line in frames(&corpus, name).lines() {
+            let frame = Frame(line);
+            // Words with d pairs, which real code has at other bits.
+            if frame
+                .after("needs_t03")
+                .map_or(false, |t| t.starts_with("true"))
+            {
+                continue;
+            }
+            let address = frame.number("address") as u32;
+            let (base, window) = (frame.number("window_base"), frame.window());
+            let regs = frame.object("regs");
+            let on_x86_64 = frame.text("arch") == "x86_64";
+            if let Some(expected) = frame.refused() {
+                let refused = if on_x86_64 {
+                    info.unwind_x86_64(address, regs.x86_64(), base, &window)
+                        .unwrap_err()
+                } else {
+                    info.unwind_arm64(address, regs.arm64(), base, &window)
+                        .unwrap_err()
+                };
+                assert_eq!((refused.number(), refused.value()), expected, "{line}");
+                refusals += 1;
+            } else if on_x86_64 {
+                let unwound = info.unwind_x86_64(address, regs.x86_64(), base, &window);
+                let caller = unwound.map(|unwound| unwound.registers);
+                assert_eq!(caller, Ok(frame.object("expect").x86_64()), "{line}");
+                callers[0] += 1;
+            } else {
+                let unwound = info.unwind_arm64(address, regs.arm64(), base, &window);
+                let caller = unwound.map(|unwound| unwound.registers);
+                assert_eq!(caller, Ok(frame.object("expect").arm64()), "{line}");
+                callers[1] += 1;
+            }
+        }
+    }
+    assert!(callers[0] > 1_000 && callers[1] > 100 && refusals > 100);
+}
+
+fn frames(corpus: &Path, name: &str) -> String {
+    let path = corpus.join(format!("frames/{name}.jsonl"));
+    std::fs::read_to_string(&path).unwrap_or_else(|e| panic!("{}: {e}", path.display()))
+}
+
+/// A word for `__eh_frame` in a real section tells where to look there.
+#[test]
+fn a_real_dwarf_word_names_its_place() {
+    let corpus = match corpus() {
+        Some(corpus) => corpus,
+        None => return,
+    };
+    let section = std::fs::read(corpus.join("sections/s_arm_dwarf_1500.bin")).unwrap();
+    let info = UnwindInfo::parse(&section).unwrap();
+    let mut functions = info.functions();
+    let mut dwarf = 0;
+    while let Some(function) = functions.next().unwrap() {
+        let unwound = info.unwind_arm64(function.start_address, Default::default(), 0, &[]);
+        if let Err(UnwindError::Step {
+            refusal: Refusal::Dwarf { eh_frame_fde },
+            ..
+        }) = unwound
+        {
+            assert_eq!(function.opcode, 0x0300_0000 | eh_frame_fde);
+            dwarf += 1;
+        }
+    }
+    assert!(dwarf > 100);
+}

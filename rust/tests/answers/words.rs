@@ -1,0 +1,209 @@
+//! Opcode words and permutations.
+
+use crate::inputs::Random;
+use macho_unwind_info::opcodes::{
+    decode_permutation_6, encode_permutation_6, OpcodeArm64, OpcodeBitfield, OpcodeX86_64,
+    RegisterNameX86_64,
+};
+use macho_unwind_info::PermutationError;
+use RegisterNameX86_64::*;
+
+const RANDOM_WORDS: usize = 200_000;
+
+/// Words of every kind, in equal shares.
+fn random_words() -> impl Iterator<Item = u32> {
+    let mut random = Random::new(3);
+    (0..RANDOM_WORDS).map(move |i| random.next() & 0xf0ff_ffff | (i as u32 % 16) << 24)
+}
+
+#[test]
+fn the_words_of_s() {
+    assert_eq!(
+        OpcodeX86_64::parse(0x0101_0001),
+        OpcodeX86_64::FrameBased {
+            stack_offset_in_bytes: 8,
+            saved_regs: [None, None, None, None, Some(Rbx)],
+        }
+    );
+    assert_eq!(
+        OpcodeX86_64::parse(0x0203_0800),
+        OpcodeX86_64::FramelessImmediate {
+            stack_size_in_bytes: 24,
+            saved_regs: [Some(Rbx), Some(R12), None, None, None, None],
+        }
+    );
+}
+
+/// The original's own expressions for the fields.
+#[test]
+fn x86_64_words_are_read_as_the_original_reads_them() {
+    let mut kinds = [0; 7];
+    for opcode in random_words() {
+        let kind = (opcode >> 24 & 0b1111) as u8;
+        let register = |shift: u32| RegisterNameX86_64::parse((opcode >> shift & 0b111) as u8);
+        let size = (opcode >> 16 & 0xff) as u16 * 8;
+        let listed = decode_permutation_6(opcode >> 10 & 0b111, opcode & 0b11_1111_1111)
+            .map(|registers| registers.map(RegisterNameX86_64::parse));
+        let (case, expected) = match (kind, listed) {
+            (0, _) => (0, OpcodeX86_64::Null),
+            (1, _) => {
+                let based = OpcodeX86_64::FrameBased {
+                    stack_offset_in_bytes: size,
+                    saved_regs: [12, 9, 6, 3, 0].map(register),
+                };
+                (1, based)
+            }
+            (2, Ok(saved_regs)) => {
+                let immediate = OpcodeX86_64::FramelessImmediate {
+                    stack_size_in_bytes: size,
+                    saved_regs,
+                };
+                (2, immediate)
+            }
+            (3, Ok(saved_regs)) => {
+                let indirect = OpcodeX86_64::FramelessIndirect {
+                    immediate_offset_from_function_start: (opcode >> 16) as u8,
+                    stack_adjust_in_bytes: (opcode >> 13 & 0b111) as u8 * 8,
+                    saved_regs,
+                };
+                (3, indirect)
+            }
+            (2, Err(_)) | (3, Err(_)) => (4, OpcodeX86_64::InvalidFrameless),
+            (4, _) => {
+                let eh_frame_fde = opcode & 0xff_ffff;
+                (5, OpcodeX86_64::Dwarf { eh_frame_fde })
+            }
+            (kind, _) => (6, OpcodeX86_64::UnrecognizedKind(kind)),
+        };
+        assert_eq!(OpcodeX86_64::parse(opcode), expected, "{opcode:#010x}");
+        kinds[case] += 1;
+    }
+    assert!(kinds.iter().all(|&met| met > 1_000), "{kinds:?}");
+}
+
+#[test]
+fn arm64_words_are_read_as_the_original_reads_them() {
+    for opcode in random_words() {
+        let expected = match (opcode >> 24 & 0b1111) as u8 {
+            0 => OpcodeArm64::Null,
+            2 => OpcodeArm64::Frameless {
+                stack_size_in_bytes: (opcode >> 12 & 0xfff) as u16 * 16,
+            },
+            3 => OpcodeArm64::Dwarf {
+                eh_frame_fde: opcode & 0xff_ffff,
+            },
+            4 => OpcodeArm64::FrameBased {
+                saved_reg_pair_count: (opcode & 0b1_1111_1111).count_ones() as u8,
+                d14_and_d15_saved: opcode >> 8 & 1 == 1,
+                d12_and_d13_saved: opcode >> 7 & 1 == 1,
+                d10_and_d11_saved: opcode >> 6 & 1 == 1,
+                d8_and_d9_saved: opcode >> 5 & 1 == 1,
+                x27_and_x28_saved: opcode >> 4 & 1 == 1,
+                x25_and_x26_saved: opcode >> 3 & 1 == 1,
+                x23_and_x24_saved: opcode >> 2 & 1 == 1,
+                x21_and_x22_saved: opcode >> 1 & 1 == 1,
+                x19_and_x20_saved: opcode & 1 == 1,
+            },
+            kind => OpcodeArm64::UnrecognizedKind(kind),
+        };
+        assert_eq!(OpcodeArm64::parse(opcode), expected, "{opcode:#010x}");
+    }
+}
+
+#[test]
+fn a_field_of_7_names_nothing() {
+    assert_eq!(
+        OpcodeX86_64::parse(0x0100_0007),
+        OpcodeX86_64::parse(0x0100_0000)
+    );
+}
+
+#[test]
+fn a_bitfield_has_its_parts() {
+    for word in random_words().take(1_000) {
+        let bits = OpcodeBitfield::from(word);
+        assert_eq!((bits.0, OpcodeBitfield::new(word).0), (word, word));
+        assert_eq!(u32::from(bits.kind()), word >> 24 & 15);
+        assert_eq!(bits.specific_bits(), word & 0xff_ffff);
+    }
+}
+
+#[test]
+fn six_numbers_name_registers() {
+    let registers = [Rbx, R12, R13, R14, R15, Rbp];
+    assert_eq!(registers.len(), RegisterNameX86_64::COUNT);
+    for n in 0..=255 {
+        let expected = registers.get(usize::from(n).wrapping_sub(1)).copied();
+        assert_eq!(RegisterNameX86_64::parse(n), expected, "{n}");
+    }
+    assert_eq!(
+        registers.map(|register| register.dwarf_number()),
+        [3, 12, 13, 14, 15, 6]
+    );
+    for register in registers {
+        let name = format!("reg{}", register.dwarf_number());
+        assert_eq!(register.dwarf_name(), name);
+    }
+}
+
+#[test]
+fn permutations() {
+    assert_eq!(decode_permutation_6(6, 719), Ok([6, 5, 4, 3, 2, 1]));
+    assert_eq!(decode_permutation_6(5, 719), Ok([6, 5, 4, 3, 2, 0]));
+    assert_eq!(decode_permutation_6(0, 1023), Ok([0; 6]));
+    let refused = Err(PermutationError::InvalidEncoding);
+    assert_eq!(decode_permutation_6(6, 720), refused);
+    assert_eq!(decode_permutation_6(7, 0), refused);
+    assert_eq!(PermutationError::InvalidEncoding.number(), 23);
+}
+
+#[test]
+fn what_is_decoded_is_encoded_again() {
+    let first_refused = [6, 30, 120, 360, 720, 720];
+    for (count, first_refused) in (1..).zip(first_refused) {
+        for encoding in 0..first_refused {
+            let registers = decode_permutation_6(count, encoding).unwrap();
+            assert_eq!(encode_permutation_6(count, &registers), Ok(encoding));
+        }
+        assert!(decode_permutation_6(count, first_refused).is_err());
+    }
+    assert_eq!(encode_permutation_6(0, &[0; 6]), Ok(0));
+}
+
+#[test]
+fn lists_that_are_none_are_refused() {
+    for (count, list) in [
+        (2, [1, 1, 0, 0, 0, 0]),
+        (2, [1, 7, 0, 0, 0, 0]),
+        (2, [1, 0, 0, 0, 0, 0]),
+        (1, [1, 2, 0, 0, 0, 0]),
+        (7, [1, 2, 3, 4, 5, 6]),
+    ] {
+        let refused = encode_permutation_6(count, &list).unwrap_err();
+        assert_eq!(refused, PermutationError::InvalidList);
+        assert_eq!(refused.number(), 28);
+    }
+}
+
+#[test]
+fn words_print() {
+    let x86_64 = |word| OpcodeX86_64::parse(word).to_string();
+    assert_eq!(x86_64(0), "null");
+    assert_eq!(x86_64(0x0103_0045), "frame-based, 24 below rbp: rbx r15");
+    assert_eq!(x86_64(0x0201_0000), "frameless, 8 bytes");
+    assert_eq!(
+        x86_64(0x030d_e405),
+        "frameless, size at 13 in the code and 56 more: rbp"
+    );
+    assert_eq!(x86_64(0x0400_1234), "__eh_frame at 0x1234");
+    assert_eq!(x86_64(0x0200_0406), "frameless, not a permutation");
+    assert_eq!(x86_64(0x0f00_0000), "unknown kind 15");
+
+    let arm64 = |word| OpcodeArm64::parse(word).to_string();
+    assert_eq!(arm64(0), "null");
+    assert_eq!(arm64(0x0200_2000), "frameless, 32 bytes");
+    assert_eq!(arm64(0x0300_0014), "__eh_frame at 0x14");
+    assert_eq!(arm64(0x0400_0000), "frame-based");
+    assert_eq!(arm64(0x0400_0021), "frame-based: x19/x20 d8/d9");
+    assert_eq!(arm64(0x0100_0000), "unknown kind 1");
+}
