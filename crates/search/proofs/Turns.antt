@@ -1,21 +1,26 @@
--- The search's turns on plain values: one round, twice as many, and a search on its way.
+-- The search's turns on plain values: one round, several, and a search on its way.
 -- Assumes nothing.
 use Prim.Native.Nat.{ℕ, _+_, _-_, _*_, _/_, _^_, _≤_, _<_, zero-le}
 use mathlib.Core.Path.{_≡_, refl, ap, sym, _∙_}
+use mathlib.Core.Bool.{Bool, true, false, cond}
 use mathlib.Core.List.{List, [], _∷_}
-use native.Mathlib.Nat.{le-refl, mul-assoc, mul-comm, mul-le-mul-left, le-div-iff-mul-le, div-lt-iff-lt-mul}
+use native.Mathlib.Nat.{zero-add, le-refl, mul-assoc, mul-comm, mul-le-mul-left, le-div-iff-mul-le, div-lt-iff-lt-mul}
 use native.Mathlib.Numerals.{unary-clauses}
 use native.Mathlib.Omega.{arith}
 use native.Mathlib.Decide.{decLt}
+use lib.Dec.{ltb}
+use lib.Pow.{pow-add, pow-pos, pow-mono}
 use lib.ListN.{length, getD}
+use borrow.Author.Tests.{ltb-true, ltb-false, lt-ltb}
 use Rattle.reader.specs.Reader.{numberAt, wordAt}
 use Rattle.reader.proofs.Laws.{there}
 use Rattle.search.specs.declared.Layout.{Layout}
 use Rattle.search.specs.declared.Spot.{Spot}
+use Rattle.search.specs.declared.Spots.{Spots}
 use Rattle.search.specs.declared.Span.{Span}
 use Rattle.search.specs.declared.Going.{Going}
-use Rattle.search.specs.Search.{sizeOf, mid, more, run, searchOf}
-use Rattle.search.specs.Steps.{Took, OnWay, Below}
+use Rattle.search.specs.Search.{sizeOf, keyOf, mid, more, run, searchOf, spotsOf}
+use Rattle.search.specs.Steps.{hi, whole, going, Ready, Took, OnWay, Below, Gone, Shortest}
 use Rattle.search.proofs.Laws.{spot, more-more, run-done, run-up, run-down, starts, bits}
 
 -- an entry that is one of the first so many lies in the list
@@ -23,6 +28,12 @@ pub entry-inside : (l : Layout) (i hi n : ℕ) → sizeOf l * hi ≤ n → i < h
 entry-inside Layout.Pages i hi n h t = omega arith
 entry-inside Layout.Regular i hi n h t = omega arith
 entry-inside Layout.Compressed i hi n h t = omega arith
+
+-- so many entries are no more than their bytes
+pub less-inside : (l : Layout) (i n : ℕ) → sizeOf l * i ≤ n → i ≤ n
+less-inside Layout.Pages i n h = omega arith
+less-inside Layout.Regular i n h = omega arith
+less-inside Layout.Compressed i n h = omega arith
 
 pub inside-by : (l m : Layout) (i n : ℕ) → l ≡ m → sizeOf l * i + 4 ≤ n → sizeOf m * i + 4 ≤ n
 inside-by l m i n e h = rw e at h
@@ -37,96 +48,138 @@ fewer-inside Layout.Pages hi n m h t = omega arith
 fewer-inside Layout.Regular hi n m h t = omega arith
 fewer-inside Layout.Compressed hi n m h t = omega arith
 
-abbrev span : ℕ → ℕ → Span
-span lo hi = record { lo = lo; hi = hi }
+more-none : (p : Spot) → more 0 p ≡ p
+unfolding more
+more-none p = simp zero-add
 
-abbrev going : ℕ → ℕ → ℕ → ℕ → Going
-going lo hi width probes = record { lo = lo; hi = hi; width = width; probes = probes }
+-- what is chosen of two equal numbers, and of an entry and the last one
+both : (t : Bool) (a b : ℕ) → a ≡ b → cond t a b ≡ b
+both true a b e = e
+both false a b e = refl
+
+pub clamped : (lo n i : ℕ) → 0 < n → i ≡ cond (ltb lo n) lo (n - 1) → i < n
+clamped lo n i h e = rw e (by (ltb lo n) refl)
+  where
+    by : (t : Bool) → t ≡ ltb lo n → cond t lo (n - 1) < n
+    by true q = ltb-true lo n (sym q)
+    by false q = omega arith
+
+abbrev span : ℕ → ℕ → ℕ → Span
+span lo len m = record { lo = lo; len = len; mid = m }
 
 module _ (key : ℕ → ℕ) (x : ℕ) where
-  pub goes-up : (p : Span) → p .lo < p .hi → key (mid (p .lo) (p .hi)) ≤ x → Took key x 1 2 p (span (mid (p .lo) (p .hi) + 1) (p .hi))
-  unfolding mid
-  goes-up p h l = record { rounds = run-up key x (p .lo) (p .hi) h l; order = omega arith; inside = le-refl _; small = omega arith; large = omega arith }
+  module _ (p : Span) (some : 0 < p .len) (middle : p .mid ≡ p .lo + p .len / 2) where
+    half-way : mid (p .lo) (hi p) ≡ p .mid
+    unfolding mid
+    half-way = omega arith
 
-  pub goes-down : (p : Span) → p .lo < p .hi → x < key (mid (p .lo) (p .hi)) → Took key x 1 2 p (span (p .lo) (mid (p .lo) (p .hi)))
-  unfolding mid
-  goes-down p h l = record { rounds = run-down key x (p .lo) (p .hi) h l; order = omega arith; inside = omega arith; small = omega arith; large = omega arith }
+    goes-up : key (p .mid) < x + 1 → Took key x 1 p (span (p .mid + 1) ((p .len - 1) / 2) (p .mid + 1 + (p .len - 1) / 2 / 2))
+    goes-up l =
+        let e : hi p ≡ p .mid + 1 + (p .len - 1) / 2 = omega arith in
+        record {
+          rounds = run-up key x (p .lo) (hi p) (omega arith) (rw half-way (omega arith)) ∙ ap (λ (m : ℕ). more 1 (run key x (m + 1) (hi p))) half-way ∙ ap (λ (h : ℕ). more 1 (run key x (p .mid + 1) h)) e;
+          inside = omega arith;
+          middle = refl;
+          small = omega arith;
+          large = omega arith;
+        }
 
-  -- so many rounds, and as many again
-  pub twice : (k K : ℕ) (p q r : Span) → Took key x k K p q → Took key x k K q r → Took key x (k + k) (K * K) p r
-  twice k K p q r a b =
+    goes-down : x + 1 ≤ key (p .mid) → Took key x 1 p (span (p .lo) (p .len / 2) (p .lo + p .len / 2 / 2))
+    goes-down l =
+        record {
+          rounds = run-down key x (p .lo) (hi p) (omega arith) (rw half-way (omega arith)) ∙ ap (λ (h : ℕ). more 1 (run key x (p .lo) h)) (half-way ∙ middle);
+          inside = omega arith;
+          middle = refl;
+          small = omega arith;
+          large = omega arith;
+        }
+
+    -- one round, by the test of the key
+    pub round : (k : ℕ) → k ≡ key (p .mid) → (a b c : ℕ) → a ≡ cond (ltb k (x + 1)) (p .mid + 1) (p .lo) → b ≡ cond (ltb k (x + 1)) ((p .len - 1) / 2) (p .len / 2)
+        → c ≡ cond (ltb k (x + 1)) (p .mid + 1 + (p .len - 1) / 2 / 2) (p .lo + p .len / 2 / 2) → Took key x 1 p (span a b c)
+    round k e a b c u v w = rw (u, v, w) (by (ltb k (x + 1)) refl)
+      where
+        by : (t : Bool) → t ≡ ltb k (x + 1)
+            → Took key x 1 p (span (cond t (p .mid + 1) (p .lo)) (cond t ((p .len - 1) / 2) (p .len / 2)) (cond t (p .mid + 1 + (p .len - 1) / 2 / 2) (p .lo + p .len / 2 / 2)))
+        by true q = goes-up (omega (arith, ltb-true k (x + 1) (sym q), e))
+        by false q = goes-down (omega (arith, ltb-false k (x + 1) (sym q), e))
+
+    pub lean-round : (k : ℕ) → k ≡ key (p .mid) → (a b : ℕ) → a ≡ cond (ltb k (x + 1)) (p .mid + 1) (p .lo) → b ≡ cond (ltb k (x + 1)) (p .len - 1) (p .len)
+        → Took key x 1 p (span a (b / 2) (a + b / 2 / 2))
+    lean-round k e a b u v = rw (u, v) (by (ltb k (x + 1)) refl)
+      where
+        by : (t : Bool) → t ≡ ltb k (x + 1)
+            → Took key x 1 p (span (cond t (p .mid + 1) (p .lo)) (cond t (p .len - 1) (p .len) / 2) (cond t (p .mid + 1) (p .lo) + cond t (p .len - 1) (p .len) / 2 / 2))
+        by true q = goes-up (omega (arith, ltb-true k (x + 1) (sym q), e))
+        by false q = goes-down (omega (arith, ltb-false k (x + 1) (sym q), e))
+
+  -- some rounds, and some more
+  pub then : (j k : ℕ) (p q r : Span) → Took key x j p q → Took key x k q r → Took key x (j + k) p r
+  then j k p q r a b =
       record {
-        rounds = a .rounds ∙ ap (more k) (b .rounds) ∙ more-more k k (run key x (r .lo) (r .hi));
-        order = b .order;
+        rounds = a .rounds ∙ ap (more j) (b .rounds) ∙ more-more j k (run key x (r .lo) (hi r));
         inside = omega (arith, a .inside, b .inside);
-        small = rw (mul-assoc K K (r .hi - r .lo)) (omega (arith, mul-le-mul-left K (b .small), a .small));
-        large = rw (mul-assoc K K (r .hi - r .lo + 2)) (omega (arith, mul-le-mul-left K (b .large), a .large));
+        middle = b .middle;
+        small = rw (pow-add 2 j k, mul-assoc (2 ^ j) (2 ^ k) (r .len)) (omega (arith, mul-le-mul-left (2 ^ j) (b .small), a .small));
+        large = rw (pow-add 2 j k, mul-assoc (2 ^ j) (2 ^ k) (r .len + 2)) (omega (arith, mul-le-mul-left (2 ^ j) (b .large), a .large));
       }
 
+  -- and a round more can be gone
+  pub goes-on : (l : Layout) (k m : ℕ) (p q : Span) → sizeOf l * hi p ≤ m → Took key x k p q → 2 ^ k * 2 < p .len + 2 → Ready (sizeOf l) m q
+  goes-on l k m p q h t w = record { fits = fewer-inside l _ _ _ (t .inside) h; some = by (decLt 0 (q .len)); middle = t .middle }
+    where
+      by : Dec (0 < q .len) → 0 < q .len
+      by (yes s) = s
+      by (no s) = let e : q .len ≡ 0 = omega arith in absurd (omega (arith, rw e at (t .large)))
+
   module _ (n : ℕ) where
-    pub sets-out : OnWay key x n (going 0 n n 0)
-    sets-out = record { rounds = starts key x n; order = zero-le; inside = le-refl _; least = omega arith; most = omega arith }
+    pub sets-out : OnWay key x n (going (whole n) n 0)
+    sets-out = record { rounds = rw (zero-add n) (starts key x n); inside = omega arith; middle = omega arith; least = le-refl _; most = omega arith }
+
+    pub ready : (l : Layout) (m : ℕ) (g : Going) → OnWay key x n g → 2 ≤ g .width → sizeOf l * n ≤ m → Ready (sizeOf l) m (g .left)
+    ready l m g o w h = record { fits = fewer-inside l _ _ _ (o .inside) h; some = omega (arith, o .most); middle = o .middle }
 
     -- its probes are few
     pub few : (g : Going) → OnWay key x n g → n < 2 ^ 64 → g .probes ≤ 64
     unfolding more
     few g o h = omega (arith, bits key x n 64 h, ap (λ (q : Spot). q .probes) (o .rounds))
 
-    -- after k rounds more it is on its way, a K-th as wide
-    pub onward : (k K : ℕ) (g : Going) (q : Span) → 0 < K → OnWay key x n g → Took key x k K (span (g .lo) (g .hi)) q
-        → OnWay key x n (going (q .lo) (q .hi) (g .width / K) (g .probes + k))
-    onward k K g q pos o t =
+    -- after k rounds more it is on its way, a 2^k-th as wide
+    pub onward : (k : ℕ) (g : Going) (q : Span) → OnWay key x n g → Took key x k (g .left) q → OnWay key x n (going q (g .width / 2 ^ k) (g .probes + k))
+    onward k g q o t =
         record {
-          rounds = o .rounds ∙ ap (more (g .probes)) (t .rounds) ∙ more-more (g .probes) k (run key x (q .lo) (q .hi));
-          order = t .order;
+          rounds = o .rounds ∙ ap (more (g .probes)) (t .rounds) ∙ more-more (g .probes) k (run key x (q .lo) (hi q));
           inside = omega (arith, t .inside, o .inside);
-          least = le-div-iff-mul-le {k = K} {x = q .hi - q .lo} {y = g .width} pos .1 (rw (mul-comm (q .hi - q .lo) K) (omega (arith, t .small, o .least)));
-          most = lower (div-lt-iff-lt-mul {k = K} {x = g .width} {y = q .hi - q .lo + 2} pos .1 (rw (mul-comm (q .hi - q .lo + 2) K) (omega (arith, t .large, o .most))));
+          middle = t .middle;
+          least = le-div-iff-mul-le {k = 2 ^ k} {x = q .len} {y = g .width} (pow-pos k) .1 (rw (mul-comm (q .len) (2 ^ k)) (omega (arith, t .small, o .least)));
+          most = lower (div-lt-iff-lt-mul {k = 2 ^ k} {x = g .width} {y = q .len + 2} (pow-pos k) .1 (rw (mul-comm (q .len + 2) (2 ^ k)) (omega (arith, t .large, o .most))));
         }
       where
-        lower : g .width / K < q .hi - q .lo + 2 → g .width / K ≤ q .hi - q .lo + 1
+        lower : g .width / 2 ^ k < q .len + 2 → g .width / 2 ^ k ≤ q .len + 1
         lower h = omega arith
 
     -- at most one entry is left, and was probed if there was one
-    module _ (g : Going) (b : Below key x n 2 g) (i : ℕ) (clamps : g .lo < n → i ≡ g .lo) where
-      one-left : g .lo < g .hi → (g .hi ≡ g .lo + 1) × (mid (g .lo) (g .hi) ≡ i)
-      unfolding mid
-      one-left h =
-          let o = b .on in
-          let e : g .hi ≡ g .lo + 1 = omega (arith, o .least, b .narrow) in
-          (e, omega (arith, clamps (omega (arith, o .inside)), e))
-
+    module _ (g : Going) (b : Below key x n 2 g) where
       -- where the last round ends, with its probes
-      ended : (a k c d : ℕ) → run key x (g .lo) (g .hi) ≡ spot a k → c ≡ a → d ≡ k → spot c (g .probes + d) ≡ run key x 0 n
+      ended : (a k c d : ℕ) → run key x (g .left .lo) (hi (g .left)) ≡ spot a k → c ≡ a → d ≡ k → spot c (g .probes + d) ≡ run key x 0 n
       unfolding more
       ended a k c d e p q = ap (λ (m : ℕ). spot m (g .probes + d)) p ∙ ap (λ (m : ℕ). spot a (g .probes + m)) q ∙ sym (b .on .rounds ∙ ap (more (g .probes)) e)
 
-      none-left : g .hi ≤ g .lo → (c : ℕ) → c ≡ g .lo → spot c (g .probes + (g .hi - g .lo)) ≡ run key x 0 n
-      none-left h c p = ended (g .lo) 0 c (g .hi - g .lo) (run-done key x (g .lo) (g .hi) h) p (omega arith)
-
-      pub ends-high : key i ≤ x → spot (g .hi) (g .probes + (g .hi - g .lo)) ≡ run key x 0 n
+      pub ends : (i : ℕ) → i ≡ cond (ltb (g .left .lo) n) (g .left .lo) (n - 1) → (k : ℕ) → k ≡ key i
+          → (c : ℕ) → c ≡ cond (ltb k (x + 1)) (hi (g .left)) (g .left .lo) → spot c (g .probes + g .left .len) ≡ run key x 0 n
       unfolding more
-      ends-high l = by-rest (decLt (g .lo) (g .hi))
+      ends i e k t c d = by-rest (decLt 0 (g .left .len))
         where
-          by-rest : Dec (g .lo < g .hi) → spot (g .hi) (g .probes + (g .hi - g .lo)) ≡ run key x 0 n
+          by-rest : Dec (0 < g .left .len) → spot c (g .probes + g .left .len) ≡ run key x 0 n
           by-rest (yes h) =
-              let e = one-left h in
-              let high : mid (g .lo) (g .hi) + 1 ≡ g .hi = omega (arith, e .0, e .1, clamps (omega (arith, b .on .inside))) in
-              ended (mid (g .lo) (g .hi) + 1) (1 + 0) (g .hi) (g .hi - g .lo)
-              (run-up key x (g .lo) (g .hi) h (rw (e .1) l) ∙ ap (more 1) (run-done key x (mid (g .lo) (g .hi) + 1) (g .hi) (omega arith))) (sym high) (omega (arith, e .0))
-          by-rest (no h) = none-left (omega arith) (g .hi) (omega (arith, b .on .order))
-
-      pub ends-low : x < key i → spot (g .lo) (g .probes + (g .hi - g .lo)) ≡ run key x 0 n
-      unfolding more
-      ends-low l = by-rest (decLt (g .lo) (g .hi))
-        where
-          by-rest : Dec (g .lo < g .hi) → spot (g .lo) (g .probes + (g .hi - g .lo)) ≡ run key x 0 n
-          by-rest (yes h) =
-              let e = one-left h in
-              let low : mid (g .lo) (g .hi) ≡ g .lo = omega (arith, e .0, e .1, clamps (omega (arith, b .on .inside))) in
-              ended (g .lo) (1 + 0) (g .lo) (g .hi - g .lo)
-              (run-down key x (g .lo) (g .hi) h (rw (e .1) l) ∙ ap (more 1) (run-done key x (g .lo) (mid (g .lo) (g .hi)) (omega arith))) refl (omega (arith, e .0))
-          by-rest (no h) = none-left (omega arith) (g .lo) refl
+              let o = b .on in
+              let one : g .left .len ≡ 1 = omega (arith, o .least, b .narrow) in
+              let here : i ≡ g .left .mid = e ∙ simp (lt-ltb (g .left .lo) n (omega (arith, o .inside))) (omega (arith, o .middle)) in
+              let q = round (g .left) h (o .middle) k (t ∙ ap key here) _ _ _ refl refl refl in
+              ended _ (1 + 0) c (g .left .len) (q .rounds ∙ ap (more 1) (run-done key x _ _ (omega (arith, q .small))))
+              (d ∙ ap (λ (m : ℕ). cond (ltb k (x + 1)) m (g .left .lo)) (omega (arith, o .middle))) one
+          by-rest (no h) =
+              ended (g .left .lo) 0 c (g .left .len) (run-done key x _ _ (omega arith)) (d ∙ both (ltb k (x + 1)) _ _ (omega arith)) (omega arith)
 
 -- the whole search: of no entries, and by the list's layout
 pub none : (key : ℕ → ℕ) (x n : ℕ) → n ≡ 0 → spot 0 0 ≡ run key x 0 n
@@ -134,3 +187,49 @@ none key x n e = sym (ap (run key x 0) e ∙ run-done key x 0 0 zero-le)
 
 pub by-layout : (list : List ℕ) (l m : Layout) (x : ℕ) {r : Spot} → l ≡ m → r ≡ searchOf list m x → r ≡ searchOf list l x
 by-layout list l m x e q = q ∙ ap (λ (k : Layout). searchOf list k x) (sym e)
+
+-- one of four searches side by side: a long list, and i rounds gone; as it sets out, what lets it go on, and the rest of it
+pub record Lane (list : List ℕ) (x i : ℕ) (p : Span) : Type 0 where
+  pub long : 1024 ≤ length list
+  pub gone : Gone list x i p
+
+module _ (list : List ℕ) (x : ℕ) where
+  pub off : (p : Span) → 1024 ≤ length list → p ≡ whole (length list / 4) → Lane list x 0 p
+  off p h e = record { long = h; gone = rw e (record { rounds = sym (more-none _); inside = le-refl _; middle = omega arith; small = omega arith; large = omega arith }) }
+
+  pub may-go : (i : ℕ) (p : Span) → Lane list x i p → i < 8 → Ready 4 (length list) p
+  may-go i p a l = goes-on _ x Layout.Compressed i _ _ p (omega arith) (a .gone) (omega (arith, a .long, pow-mono {i = i} {j = 7} (omega arith)))
+
+  pub went : (i : ℕ) (p q : Span) → Lane list x i p → Took (keyOf list Layout.Compressed) x 1 p q → Lane list x (i + 1) q
+  went i p q a b = record { long = a .long; gone = then _ x i 1 _ p q (a .gone) b }
+
+  pub arrived : (i : ℕ) (p : Span) → Lane list x i p → i ≡ 8 → Gone list x 8 p
+  arrived i p a e = rw e at (a .gone)
+
+  pub rest : (p : Span) → Gone list x 8 p → OnWay (keyOf list Layout.Compressed) x (length list / 4) (going p (length list / 4 / 256) 8)
+  rest p a = onward _ x _ 8 _ p (sets-out _ x (length list / 4)) a
+
+-- the least of four
+pub least : (l : Layout) (a b c d r s t : ℕ) → l ≡ Layout.Compressed → s ≡ cond (ltb a b) a b → t ≡ cond (ltb c d) c d → r ≡ cond (ltb s t) s t → Shortest l a b c d r
+least l a b c d r s t e p q u =
+    let m = less a b s p in
+    let n = less c d t q in
+    let o = less s t r u in
+    record { first = omega (arith, m, o); second = omega (arith, m, o); third = omega (arith, n, o); fourth = omega (arith, n, o); compressed = λ h. e }
+  where
+    less : (a b r : ℕ) → r ≡ cond (ltb a b) a b → (r ≤ a) × (r ≤ b)
+    less a b r e = rw e (by (ltb a b) refl)
+      where
+        by : (t : Bool) → t ≡ ltb a b → (cond t a b ≤ a) × (cond t a b ≤ b)
+        by true q = (le-refl _, omega (arith, ltb-true a b (sym q)))
+        by false q = (ltb-false a b (sym q), le-refl _)
+
+pub none-shorter : (l : Layout) (a b c d : ℕ) → Shortest l a b c d 0
+none-shorter l a b c d = record { first = zero-le; second = zero-le; third = zero-le; fourth = zero-le; compressed = λ h. absurd (omega arith) }
+
+pub four-by : (a b c d : List ℕ) (l m : Layout) (p q r s : ℕ) {t : Spots} → l ≡ m → t ≡ spotsOf (searchOf a m p) (searchOf b m q) (searchOf c m r) (searchOf d m s)
+    → t ≡ spotsOf (searchOf a l p) (searchOf b l q) (searchOf c l r) (searchOf d l s)
+four-by a b c d l m p q r s e h = rw e h
+
+pub each : {a b c d e f g h : Spot} → a ≡ e → b ≡ f → c ≡ g → d ≡ h → spotsOf a b c d ≡ spotsOf e f g h
+each p q r s = cc

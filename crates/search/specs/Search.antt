@@ -49,7 +49,7 @@ run key x lo hi = rounds key x (hi - lo) lo hi
 unfoldable pub searchOf : List ℕ → Layout → ℕ → Spot
 searchOf list layout x = run (keyOf list layout) x 0 (countOf list layout)
 
--- four searches
+-- where four searches ended
 abbrev pub spotsOf : Spot → Spot → Spot → Spot → Spots
 spotsOf a b c d = record { a = a; b = b; c = c; d = d }
 

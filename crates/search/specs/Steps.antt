@@ -1,32 +1,60 @@
--- What the search's helpers promise. 01 fixes which entries are probed and how many; these shapes probe the same ones in straight lines.
+-- What the search's helpers promise. 01 fixes which entries are probed and how many; these probe the same ones.
 -- Assumes nothing.
-use Prim.Native.Nat.{ℕ, _+_, _-_, _*_, _≤_, _<_}
+use Prim.Native.Nat.{ℕ, _+_, _*_, _/_, _^_, _≤_, _<_}
 use mathlib.Core.Path.{_≡_}
+use mathlib.Core.List.{List}
+use lib.ListN.{length}
+use Rattle.search.specs.declared.Layout.{Layout}
 use Rattle.search.specs.declared.Span.{Span}
 use Rattle.search.specs.declared.Going.{Going}
-use Rattle.search.specs.Search.{more, run}
+use Rattle.search.specs.Search.{keyOf, more, run}
 
--- k rounds were gone from p to q, and so what is left is a K-th, less at most two entries
-pub record Took (key : ℕ → ℕ) (x k K : ℕ) (p q : Span) : Type 0 where
-  pub rounds : run key x (p .lo) (p .hi) ≡ more k (run key x (q .lo) (q .hi))
-  pub order : q .lo ≤ q .hi
-  pub inside : q .hi ≤ p .hi
-  pub small : K * (q .hi - q .lo) ≤ p .hi - p .lo
-  pub large : p .hi - p .lo + 2 ≤ K * (q .hi - q .lo + 2)
+-- just past the entries that are left
+abbrev pub hi : Span → ℕ
+hi p = p .lo + p .len
 
--- a search of n entries on its way. Its width is what n alone gives, so that no turn depends on a key: the entries left, or one more
+-- n entries, of which none was probed
+abbrev pub whole : ℕ → Span
+whole n = record { lo = 0; len = n; mid = n / 2 }
+
+abbrev pub going : Span → ℕ → ℕ → Going
+going p width probes = record { left = p; width = width; probes = probes }
+
+-- a round can be gone: an entry is left, and they lie in so many bytes
+pub record Ready (size bytes : ℕ) (p : Span) : Type 0 where
+  pub fits : size * hi p ≤ bytes
+  pub some : 0 < p .len
+  pub middle : p .mid ≡ p .lo + p .len / 2
+
+-- k rounds were gone from p to q, and so what is left is a 2^k-th, less at most two entries
+pub record Took (key : ℕ → ℕ) (x k : ℕ) (p q : Span) : Type 0 where
+  pub rounds : run key x (p .lo) (hi p) ≡ more k (run key x (q .lo) (hi q))
+  pub inside : hi q ≤ hi p
+  pub middle : q .mid ≡ q .lo + q .len / 2
+  pub small : 2 ^ k * q .len ≤ p .len
+  pub large : p .len + 2 ≤ 2 ^ k * (q .len + 2)
+
+-- a search of n entries on its way. Its width is what n alone gives: the entries left, or one more
 pub record OnWay (key : ℕ → ℕ) (x n : ℕ) (g : Going) : Type 0 where
-  pub rounds : run key x 0 n ≡ more (g .probes) (run key x (g .lo) (g .hi))
-  pub order : g .lo ≤ g .hi
-  pub inside : g .hi ≤ n
-  pub least : g .hi - g .lo ≤ g .width
-  pub most : g .width ≤ g .hi - g .lo + 1
-
--- a search of n entries sets out
-abbrev pub from : ℕ → Going
-from n = record { lo = 0; hi = n; width = n; probes = 0 }
+  pub rounds : run key x 0 n ≡ more (g .probes) (run key x (g .left .lo) (hi (g .left)))
+  pub inside : hi (g .left) ≤ n
+  pub middle : g .left .mid ≡ g .left .lo + g .left .len / 2
+  pub least : g .left .len ≤ g .width
+  pub most : g .width ≤ g .left .len + 1
 
 -- and less than so wide
 pub record Below (key : ℕ → ℕ) (x n bound : ℕ) (g : Going) : Type 0 where
   pub on : OnWay key x n g
   pub narrow : g .width < bound
+
+-- a search in a list of compressed functions has k rounds behind it
+abbrev pub Gone : List ℕ → ℕ → ℕ → Span → Type 0
+Gone list x k p = Took (keyOf list Layout.Compressed) x k (whole (length list / 4)) p
+
+-- no more than any of four lengths, and above 0 for one layout only
+pub record Shortest (layout : Layout) (a b c d r : ℕ) : Type 0 where
+  pub first : r ≤ a
+  pub second : r ≤ b
+  pub third : r ≤ c
+  pub fourth : r ≤ d
+  pub compressed : 0 < r → layout ≡ Layout.Compressed

@@ -1,36 +1,29 @@
--- `search::by_one` meets its contract: each turn is a round on the way.
+-- `search::by_one` meets its contract: so narrow already, or after a round more.
 -- Assumes nothing.
 use native.Mathlib.Omega.{arith}
-use Rattle.search.specs.Search.{keyOf}
-use Rattle.search.specs.Steps.{OnWay}
-use Rattle.search.proofs.Turns.{fewer-inside, few, onward}
+use Rattle.search.proofs.Turns.{ready, few, onward}
 use Rattle.search.proofs.by_one.Statement.{statement}
 use Rattle.search.proofs.by_one.Tie as tie
 
-abbrev Inv-loop : tie.InvT-loop
-Inv-loop list layout n x lo₀ hi₀ width₀ probes₀ lo hi width probes = OnWay (keyOf list layout) x n (record { lo = lo; hi = hi; width = width; probes = probes })
+returns : tie.Need-returns
+returns c = record { on = c .before .before .before .pre .1 .on; narrow = c .if1 .taken }
 
-abbrev μ-loop : tie.MeasureT-loop
-μ-loop list layout n x lo₀ hi₀ width₀ probes₀ lo hi width probes = width
-
-loop-holds : tie.Need-loop-holds Inv-loop μ-loop
-loop-holds c = c .before .pre .1
-
-step-requires : tie.Need-step-requires Inv-loop μ-loop
+step-requires : tie.Need-step-requires
 step-requires c κs =
-    let o = c .before .loop .inv in
-    (fewer-inside (c .before .before .before .args .layout) _ _ _ (o .inside) (c .before .before .before .pre .0), omega (arith, o .most, o .order, c .loop-test .taken))
+    let s = c .before .before .before in
+    ready _ _ _ (s .args .layout) _ _ (s .pre .1 .on) (c .if1 .left) (s .pre .0)
 
-add-probes : tie.Need-add-probes Inv-loop μ-loop
-add-probes c = omega (arith, few _ _ _ _ (c .before .before .loop .inv) (c .before .before .before .before .fits .n .fits))
+add-t12 : tie.Need-add-t12
+add-t12 c =
+    let s = c .before .before .before .before in
+    omega (arith, few _ _ _ _ (s .pre .1 .on) (s .fits .n .fits))
 
-loop-again : tie.Need-loop-again Inv-loop μ-loop
-loop-again c = onward _ _ _ 1 2 _ _ (omega arith) (c .before .before .loop .inv) (c .step .ensures)
-
-returns : tie.Need-returns Inv-loop μ-loop
-returns c = record { on = c .before .loop .inv; narrow = c .loop-test .left }
+returns-2 : tie.Need-returns-2
+returns-2 c =
+    let b = c .before .before .before .before .pre .1 in
+    record { on = onward _ _ _ 1 _ _ (b .on) (c .step .ensures); narrow = omega (arith, b .narrow) }
 
 pub by-one-spec : {M : Type 1} → statement M
 by-one-spec =
     tie.close
-    (tie.spec Inv-loop μ-loop loop-holds step-requires add-probes (λ c. omega arith) loop-again returns)
+    (tie.spec returns step-requires add-t12 returns-2)

@@ -1,39 +1,34 @@
--- `search::search_four` meets its contract: each is its own search.
+-- `search::search_four` meets its contract: side by side or not, each search is the single one.
 -- Assumes nothing.
-use Rattle.search.specs.Search.{spotsOf}
-use Rattle.search.specs.declared.Spot.{Spot}
-use mathlib.Core.Path.{_≡_}
 use borrow.Author.Needs.{needs}
+use native.Mathlib.Omega.{arith}
+use Rattle.search.proofs.Turns.{four-by, each}
 use Rattle.search.proofs.search_four.Statement.{statement}
 use Rattle.search.proofs.search_four.Tie as tie
-use Rattle.search.proofs.search_four.Reads as reads
-use Rattle.search.proofs.search_four.Lts as lts
-use Rattle.search.proofs.search.Reads as search-reads
 
-all-four : (a b c d p q r s : Spot) → a ≡ p → b ≡ q → c ≡ r → d ≡ s → spotsOf a b c d ≡ spotsOf p q r s
-all-four a b c d p q r s e f g h = simp (e, f, g, h)
+long-four-requires : tie.Need-long-four-requires
+long-four-requires c κs =
+    let s = c .before .shortest .ensures in
+    let h = c .if1 .taken in
+    (omega (arith, s .first, h), omega (arith, s .second, h), omega (arith, s .third, h), omega (arith, s .fourth, h))
 
--- src/lib.rt:343:9
-search-requires : tie.Need-search-requires
-search-requires c κs = search needs
-
--- src/lib.rt:344:9
-search-requires-2 : tie.Need-search-requires-2
-search-requires-2 c κs = search needs
-
--- src/lib.rt:345:9
-search-requires-3 : tie.Need-search-requires-3
-search-requires-3 c κs = search needs
-
--- src/lib.rt:346:9
-search-requires-4 : tie.Need-search-requires-4
-search-requires-4 c κs = search needs
-
--- src/lib.rt:330:1
 returns : tie.Need-returns
-returns c = all-four _ _ _ _ _ _ _ _ (c .before .before .before .search .ensures) (c .before .before .search2 .ensures) (c .before .search3 .ensures) (c .search4 .ensures)
+returns c =
+    let s = c .before .before .shortest .ensures in
+    four-by _ _ _ _ _ _ _ _ _ _ (s .compressed (omega (arith, c .before .if1 .taken))) (c .long-four .ensures)
+
+returns-2 : tie.Need-returns-2
+returns-2 c = each (c .before .before .before .search .ensures) (c .before .before .search2 .ensures) (c .before .search3 .ensures) (c .search4 .ensures)
 
 pub search-four-spec : {M : Type 1} → statement M
 search-four-spec =
     tie.close
-    (tie.spec search-requires search-requires-2 search-requires-3 search-requires-4 returns)
+    (tie.spec
+    (λ c κs. search needs)
+    long-four-requires
+    returns
+    (λ c κs. search needs)
+    (λ c κs. search needs)
+    (λ c κs. search needs)
+    (λ c κs. search needs)
+    returns-2)
