@@ -1,4 +1,6 @@
 pub mod Writing
-pub mod Pages
+pub mod Straight
+pub mod Turns
+pub mod Block
 pub mod Left
 pub mod One

@@ -1,2 +1,3 @@
 pub mod Fill
-pub mod Collect
+pub mod Straight
+pub mod Block

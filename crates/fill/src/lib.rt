@@ -1,18 +1,19 @@
 // Iteration by blocks: functions from a cursor on, three numbers each, into a lent list. A page is opened once.
 ghost use mathlib.Core.Path.{_≡_};
-ghost use Prim.Native.Nat.{_+_, _*_, _/_, _≤_, _<_};
-ghost use mathlib.Core.Bool.{true};
+ghost use Prim.Native.Nat.{_+_, _*_, _/_, _≤_, _<_, min};
 ghost use lib.ListN.{length};
+ghost use Rattle.reader.specs.Reader.{wordAt};
 ghost use Rattle.raw.specs.Checked.{good};
-ghost use Rattle.raw.specs.Raw.{pageTold};
-ghost use Rattle.entries.specs.Entries.{functionIn};
-ghost use Rattle.entries.specs.Section.{openedAt, functionAt};
-ghost use Rattle.fill.specs.Collect.{putOf, pagedAs, collectOf, pageOutcome, pagedTold};
+ghost use Rattle.raw.specs.Raw.{grantOf};
+ghost use Rattle.entries.specs.Entries.{functionTold};
+ghost use Rattle.fill.specs.Straight.{sourceOf, Inside, entryOf, seamOf, functionTo, functionFrom};
+ghost use Rattle.fill.specs.Block.{putOf, pagedAs, PageFilled};
 ghost use Rattle.fill.specs.Fill.{filled, fillOf, fillIn, fillOn, filledTold};
 use entries::Answer;
 use entries::Function;
 use iterate::Cursor;
 use raw::Error;
+use raw::Kind;
 use raw::Lists;
 use raw::Opened;
 use raw::Page;
@@ -32,16 +33,30 @@ pub struct Filled {
     pub stop: Stop,
 }
 
-enum PageStop {
-    Full,
-    Done,
-    Refused(Error),
-}
-
+// How many functions stand in the list, the index that comes next in the page, and why the page gives no more: `End` is its own.
 struct Paged {
     pub functions: usize,
-    pub index: u32,
-    pub stop: PageStop,
+    pub index: usize,
+    pub stop: Stop,
+}
+
+// Where the section has what a page's functions are read from; computed once for all of them.
+struct Source {
+    pub kind: Kind,
+    pub base: u32,
+    pub next: u32,
+    pub first: usize,
+    pub entries: u32,
+    pub globals: usize,
+    pub globals_end: usize,
+    pub locals_at: usize,
+    pub opcodes: usize,
+}
+
+// An entry's first word, and where its function starts.
+struct Entry {
+    pub word: u32,
+    pub start: u64,
 }
 
 // Writes a function as the k-th of the list.
@@ -55,41 +70,116 @@ fn put(out: &mut [u32], k: usize, f: Function)
     out[at + 2] = f.opcode;
 }
 
-// Functions of a page's list from an index on.
-fn fill_list<'a>(
-    globals: &'a [u8],
-    locals: &'a [u8],
-    functions: &[u8],
-    pg: Page,
-    next: u32,
-    from: u32,
-    out: &mut [u32],
-) -> Paged
-    ensures { λ r. ⌜ pagedTold r (now (out .exit)) ≡ pageOutcome (collectOf (functionIn (now (globals .entry)) (now (locals .entry)) true (now (functions .entry)) pg next) (pg .«functions_len») (length (now (out .entry)) / 3) from) (now (out .entry)) ⌝ }
+fn least(a: usize, b: usize) -> usize
+    ensures { λ r. ⌜ r ≡ min a b ⌝ }
 {
-    let n = pg.functions_len;
-    let room = out.len() / 3;
-    let mut k: usize = 0;
-    let mut i = from;
-    while k < room {
-        if i >= n {
-            return page_stopped(k, i, PageStop::Done);
-        }
-        match entries::function_in(globals, locals, true, functions, pg, next, i) {
-            Answer::Refused(error) => {
-                return page_stopped(k, i + 1, PageStop::Refused(error));
-            }
-            Answer::Function(f) => {
-                put(out, k, f);
-            }
-        }
-        k += 1;
-        i += 1;
-    }
-    page_stopped(k, i, PageStop::Full)
+    if a < b { a } else { b }
 }
 
-fn page_stopped(functions: usize, index: u32, stop: PageStop) -> Paged
+// The four bytes at the offset, which are there: no test of it.
+fn four(s: &[u8], at: usize) -> u32
+    requires { ⌜ at + 4 ≤ length (now s) ⌝ }
+    ensures { λ r. ⌜ r ≡ wordAt 4 (now (s .entry)) at ⌝ }
+{
+    reader::from_le_bytes(s[at], s[at + 1], s[at + 2], s[at + 3])
+}
+
+fn source_of(s: &[u8], lists: Lists, p: u32, pg: Page) -> Source
+    requires { ⌜ p + 1 < 4294967296 ⌝ }
+    ensures { λ r. ⌜ r ≡ sourceOf (now (s .entry)) lists p pg ⌝ }
+{
+    let pages = raw::pages(s, lists);
+    let page = raw::page_offset(pages, p) as usize;
+    let next = raw::first_address(pages, p + 1);
+    let kind = pg.kind;
+    let globals = lists.global_opcodes_len as usize;
+    Source {
+        kind,
+        base: pg.base,
+        next,
+        first: page + pg.functions_offset as usize,
+        entries: pg.functions_len,
+        globals,
+        globals_end: lists.global_opcodes_offset as usize + 4 * globals,
+        locals_at: page + pg.local_opcodes_offset as usize,
+        opcodes: globals + pg.local_opcodes_len as usize,
+    }
+}
+
+// Entry i; past the last, the next page's first address.
+fn entry_at(s: &[u8], source: Source, i: usize) -> Entry
+    requires { ⌜ Inside (now s) source ⌝ }
+    ensures { λ r. ⌜ r ≡ entryOf (now (s .entry)) source i ⌝ }
+{
+    let kind = source.kind;
+    let first = source.first;
+    let base = source.base as u64;
+    if source.entries as usize <= i {
+        let start = source.next as u64;
+        return Entry { word: 0, start };
+    }
+    match kind {
+        Kind::Regular => {
+            let word = four(s, first + 8 * i);
+            let start = base + word as u64;
+            Entry { word, start }
+        }
+        Kind::Compressed => {
+            let word = four(s, first + 4 * i);
+            let start = base + (word % 16777216) as u64;
+            Entry { word, start }
+        }
+    }
+}
+
+// Where the palettes meet, as an index sees it: a global opcode lies before the globals' end, a local one from the locals' start on. So one conditional move chooses, and no jump that nobody could predict.
+fn seam(source: Source, index: usize) -> usize
+    ensures { λ r. ⌜ r ≡ seamOf source index ⌝ }
+{
+    if index < source.globals {
+        source.globals_end
+    } else {
+        source.locals_at
+    }
+}
+
+fn function_answer(start: u64, end: u64, opcode: u32) -> Answer
+    requires { ⌜ (start < 4294967296) × (end < 4294967296) ⌝ }
+    ensures { λ r. ⌜ functionTold r ≡ good (record { «start_address» = start; «end_address» = end; opcode = opcode }) ⌝ }
+{
+    Answer::Function(Function {
+        start_address: start as u32,
+        end_address: end as u32,
+        opcode,
+    })
+}
+
+// Function i, whose entry is `here`, up to an end.
+fn function_to(s: &[u8], source: Source, i: usize, here: Entry, end: u64) -> Answer
+    requires { ⌜ Inside (now s) source × (i < source .entries) × (here .start < 4294967296) ⌝ }
+    ensures { λ r. ⌜ functionTold r ≡ functionTo (now (s .entry)) source i here end ⌝ }
+{
+    let kind = source.kind;
+    let first = source.first;
+    let globals = source.globals;
+    let start = here.start;
+    if end >= 4294967296 {
+        return Answer::Refused(Error::AddressTooLarge);
+    }
+    match kind {
+        Kind::Regular => function_answer(start, end, four(s, first + 8 * i + 4)),
+        Kind::Compressed => {
+            let index = (here.word / 16777216) as usize;
+            if source.opcodes <= index {
+                return Answer::Refused(Error::LocalIndex);
+            }
+            let at = seam(source, index) + 4 * index - 4 * globals;
+            function_answer(start, end, four(s, at))
+        }
+    }
+}
+
+fn page_stopped(functions: usize, index: usize, stop: Stop) -> Paged
     ensures { λ r. ⌜ r ≡ pagedAs functions index stop ⌝ }
 {
     Paged {
@@ -99,29 +189,41 @@ fn page_stopped(functions: usize, index: u32, stop: PageStop) -> Paged
     }
 }
 
-// Functions of page p, which was opened as pg, from an index on.
-fn fill_page(s: &[u8], lists: Lists, p: u32, pg: Page, from: u32, out: &mut [u32]) -> Paged
-    requires { ⌜ (p + 1 < 4294967296) × (openedAt (now s) lists p ≡ good pg) ⌝ }
-    ensures { λ r. ⌜ pagedTold r (now (out .exit)) ≡ pageOutcome (collectOf (functionAt (now (s .entry)) lists p pg) (pg .«functions_len») (length (now (out .entry)) / 3) from) (now (out .entry)) ⌝ }
+// Functions of a page from an index on. A function's end is the next one's start, so each entry is read once.
+fn fill_page(s: &[u8], source: Source, from: u32, written: usize, out: &mut [u32]) -> Paged
+    requires { ⌜ Inside (now s) source × (written < length (now out) / 3) ⌝ }
+    ensures { λ r. ⌜ PageFilled (functionFrom (now (s .entry)) source) (source .entries) written from (now (out .entry)) r (now (out .exit)) ⌝ }
 {
-    let pages = raw::pages(s, lists);
-    let next = raw::first_address(pages, p + 1);
-    let start = raw::page_offset(pages, p) as usize;
-    let page = &s[start..];
-    let locals = entries::local_opcodes(page, pg);
-    let functions = entries::functions(page, pg);
-    fill_list(
-        raw::global_opcodes(s, lists),
-        locals,
-        functions,
-        pg,
-        next,
-        from,
-        out,
-    )
+    let room = out.len() / 3;
+    let mut k = written;
+    let mut i = from as usize;
+    let stop = least(source.entries as usize, i + (room - k));
+    let mut here = entry_at(s, source, i);
+    if here.start >= 4294967296 {
+        return page_stopped(k, i + 1, Stop::Refused(Error::AddressTooLarge));
+    }
+    while i < stop {
+        let after = entry_at(s, source, i + 1);
+        match function_to(s, source, i, here, after.start) {
+            Answer::Refused(error) => {
+                return page_stopped(k, i + 1, Stop::Refused(error));
+            }
+            Answer::Function(f) => {
+                put(out, k, f);
+            }
+        }
+        here = after;
+        k += 1;
+        i += 1;
+    }
+    if k < room {
+        return page_stopped(k, i, Stop::End);
+    }
+    page_stopped(k, i, Stop::Full)
 }
 
 fn fill_of(s: &[u8], lists: Lists, c: Cursor, out: &mut [u32]) -> Filled
+    requires { ⌜ grantOf (now s) lists ≡ good lists ⌝ }
     ensures { λ r. ⌜ filledTold r (now (out .exit)) ≡ fillOf (now (s .entry)) lists c (now (out .entry)) ⌝ }
 {
     let pages = lists.pages_len;
@@ -139,22 +241,15 @@ fn fill_of(s: &[u8], lists: Lists, c: Cursor, out: &mut [u32]) -> Filled
                 return stopped(k, p + 1, 0, Stop::Refused(error));
             }
             Opened::Page(pg) => {
-                let at = 3 * k;
-                let r = fill_page(s, lists, p, pg, i, &mut out[at..]);
-                let j = r.index;
+                let r = fill_page(s, source_of(s, lists, p, pg), i, k, out);
                 let stop = r.stop;
-                k += r.functions;
-                match stop {
-                    PageStop::Refused(error) => {
-                        return stopped(k, p, j, Stop::Refused(error));
-                    }
-                    PageStop::Full => {
-                        return stopped(k, p, j, Stop::Full);
-                    }
-                    PageStop::Done => {
-                        p += 1;
-                        i = 0;
-                    }
+                k = r.functions;
+                i = r.index as u32;
+                if let Stop::End = stop {
+                    p += 1;
+                    i = 0;
+                } else {
+                    return stopped(k, p, i, stop);
                 }
             }
         }

@@ -4,7 +4,7 @@ use borrow.Author.Needs.{needs}
 use mathlib.Core.Path.{refl}
 use native.Mathlib.Omega.{arith}
 use lib.ListN.{length-set}
-use Rattle.fill.specs.Collect.{putOf}
+use Rattle.fill.specs.Block.{putOf}
 use Rattle.fill.proofs.put.Statement.{statement}
 use Rattle.fill.proofs.put.Tie as tie
 

@@ -1,0 +1,143 @@
+-- What the helpers of a page read and answer, case by case, on plain values; and the turns of a page's loop.
+-- Assumes nothing.
+use Prim.Native.Nat.{ℕ, _+_, _-_, _*_, _/_, _≤_, _<_, min}
+use mathlib.Core.Path.{_≡_, refl, ap, sym, _∙_}
+use mathlib.Core.List.{List}
+use native.Mathlib.Omega.{arith}
+use native.Mathlib.Decide.{decLt}
+use borrow.Author.Tests.{lt-ltb, le-ltb}
+use lib.ListN.{length, length-set}
+use Rattle.reader.specs.Reader.{wordAt}
+use Rattle.search.specs.Search.{sizeOf}
+use Rattle.raw.specs.declared.Kind.{Kind}
+use Rattle.raw.specs.declared.Error.{Error}
+use Rattle.raw.specs.Checked.{good, refused, numberOf}
+use Rattle.raw.specs.Raw.{layout}
+use Rattle.entries.specs.declared.Function.{Function}
+use Rattle.entries.specs.declared.Answer.{Answer}
+use Rattle.entries.specs.Entries.{functionTold}
+use Rattle.fill.specs.declared.Source.{Source}
+use Rattle.fill.specs.declared.Entry.{Entry}
+use Rattle.fill.specs.declared.Paged.{Paged}
+use Rattle.fill.specs.declared.Stop.{Stop}
+use Rattle.fill.specs.Straight.{Inside, seamOf, entryBy, entryOf, opcodeBy, functionTo, functionFrom}
+use Rattle.fill.specs.Block.{putOf, Wrote, none, more, pagedAs, PageFilled, InPage}
+
+module _ (s : List ℕ) (q : Source) (inside : Inside s q) where
+  -- an entry that is there lies in the section
+  pub entry-inside : (k : Kind) (i : ℕ) → q .kind ≡ k → i < q .entries → q .first + sizeOf (layout k) * i + sizeOf (layout k) ≤ length s
+  entry-inside Kind.Regular i e t =
+      let h : q .first + 8 * q .entries ≤ length s = rw e at (inside .entries) in
+      omega arith
+  entry-inside Kind.Compressed i e t =
+      let h : q .first + 4 * q .entries ≤ length s = rw e at (inside .entries) in
+      omega arith
+
+  -- and so does an opcode
+  pub opcode-inside : (index m : ℕ) → index < q .opcodes → m ≡ seamOf q index → (4 * q .globals ≤ m + 4 * index) × (m + 4 * index + 4 ≤ length s + 4 * q .globals)
+  unfolding seamOf
+  opcode-inside index m t e = by-place (decLt index (q .globals))
+    where
+      by-place : Dec (index < q .globals) → (4 * q .globals ≤ m + 4 * index) × (m + 4 * index + 4 ≤ length s + 4 * q .globals)
+      by-place (yes g) =
+          let at : m ≡ q .«globals_end» = e ∙ simp (lt-ltb index (q .globals) g) in
+          (omega (arith, inside .below), omega (arith, inside .globals))
+      by-place (no g) =
+          let at : m ≡ q .«locals_at» = e ∙ simp (le-ltb index (q .globals) (omega arith)) in
+          (omega arith, omega (arith, inside .locals))
+
+module _ (s : List ℕ) (q : Source) (i : ℕ) where
+  pub no-entry : q .entries ≤ i → record { word = 0; start = q .next } ≡ entryOf s q i
+  unfolding entryOf
+  no-entry h = simp (le-ltb i (q .entries) h)
+
+  pub an-entry : (k : Kind) → q .kind ≡ k → i < q .entries → (e : Entry) → e ≡ entryBy s q k i → e ≡ entryOf s q i
+  unfolding entryOf
+  an-entry k p h e t = t ∙ simp (lt-ltb i (q .entries) h, p)
+
+  -- the function of an entry, up to an end
+  module _ (here : Entry) (end : ℕ) where
+    abbrev with : ℕ → Function
+    with x = record { «start_address» = here .start; «end_address» = end; opcode = x }
+
+    pub end-too-large : 4294967296 ≤ end → refused 13 ≡ functionTo s q i here end
+    unfolding functionTo
+    end-too-large h = simp (le-ltb end 4294967296 h)
+
+    module _ (h : end < 4294967296) where
+      pub regular : q .kind ≡ Kind.Regular → (x : ℕ) → x ≡ wordAt 4 s (q .first + 8 * i + 4) → good (with x) ≡ functionTo s q i here end
+      unfolding functionTo opcodeBy
+      regular p x e = simp (lt-ltb end 4294967296 h, p, e)
+
+      module _ (p : q .kind ≡ Kind.Compressed) where
+        pub no-opcode : q .opcodes ≤ here .word / 16777216 → refused 14 ≡ functionTo s q i here end
+        unfolding functionTo opcodeBy
+        no-opcode t = simp (lt-ltb end 4294967296 h, p, le-ltb (here .word / 16777216) (q .opcodes) t)
+
+        pub compressed : here .word / 16777216 < q .opcodes → (m x : ℕ) → m ≡ seamOf q (here .word / 16777216) → x ≡ wordAt 4 s (m + 4 * (here .word / 16777216) - 4 * q .globals)
+            → good (with x) ≡ functionTo s q i here end
+        unfolding functionTo opcodeBy
+        compressed t m x em ex = simp (lt-ltb end 4294967296 h, p, lt-ltb (here .word / 16777216) (q .opcodes) t, ex, em)
+
+  -- an end that was taken is no more than that
+  end-fits : (here : Entry) (end : ℕ) (x : Function) → functionTo s q i here end ≡ good x → end < 4294967296
+  unfolding functionTo
+  end-fits here end x e = by-room (decLt end 4294967296)
+    where
+      by-room : Dec (end < 4294967296) → end < 4294967296
+      by-room (yes h) = h
+      by-room (no h) = absurd (let z : _≡_ {A = ℕ} 0 1 = cc (end-too-large here end (omega arith)) in omega arith)
+
+module _ (s : List ℕ) (q : Source) (k₀ i₀ : ℕ) (out₀ : List ℕ) (h₀ : k₀ < length out₀ / 3) where
+  abbrev filled : Paged → List ℕ → Type 0
+  filled r out = PageFilled (functionFrom s q) (q .entries) k₀ i₀ out₀ r out
+
+  module _ (here : Entry) (e : here ≡ entryOf s q i₀) where
+    pub sets-out : i₀ < 4294967296 → q .entries < 4294967296 → here .start < 4294967296 → InPage s q k₀ i₀ out₀ k₀ i₀ here out₀
+    sets-out small few t = record { wrote = none; steps = omega arith; room = omega arith; index = small; few = few; here-is = e; start = t; list = refl }
+
+    -- past the last entry stands an address that fits
+    pub starts-too-high : q .entries < 4294967296 → q .next < 4294967296 → 4294967296 ≤ here .start → (r : Paged) → r ≡ pagedAs k₀ (i₀ + 1) (Stop.Refused Error.AddressTooLarge) → filled r out₀
+    unfolding functionFrom
+    starts-too-high few n t r er = by-place (decLt i₀ (q .entries))
+      where
+        by-place : Dec (i₀ < q .entries) → filled r out₀
+        by-place (yes u) = rw er (record { at = i₀; wrote = none; room = omega arith; index = omega arith; why = (h₀, u, simp (sym e, le-ltb (here .start) 4294967296 t), refl) })
+        by-place (no u) = absurd (omega (arith, ap (λ (x : Entry). x .start) (no-entry s q i₀ (omega arith)), ap (λ (x : Entry). x .start) e))
+
+  module _ (stop : ℕ) (es : stop ≡ min (q .entries) (i₀ + (length out₀ / 3 - k₀))) (k i : ℕ) (here : Entry) (out : List ℕ) (inv : InPage s q k₀ i₀ out₀ k i here out) where
+    pub page-ends : stop ≤ i → k < length out₀ / 3 → (r : Paged) → r ≡ pagedAs k i Stop.End → filled r out
+    page-ends t u r er = rw er (record { at = i; wrote = inv .wrote; room = inv .room; index = inv .index; why = (u, omega (arith, inv .steps)) })
+
+    pub room-ends : length out₀ / 3 ≤ k → (r : Paged) → r ≡ pagedAs k i Stop.Full → filled r out
+    room-ends u r er = rw er (record { at = i; wrote = inv .wrote; room = inv .room; index = inv .index; why = (u, refl) })
+
+    module _ (t : i < stop) where
+      pub entry-there : i < q .entries
+      entry-there = omega arith
+
+      pub room-there : k < length out₀ / 3
+      room-there = omega (arith, inv .steps)
+
+      module _ (after : Entry) (ea : after ≡ entryOf s q (i + 1)) (w : Answer) (ew : functionTold w ≡ functionTo s q i here (after .start)) where
+        answers : functionFrom s q i ≡ functionTold w
+        unfolding functionFrom
+        answers = simp (sym (inv .here-is), lt-ltb (here .start) 4294967296 (inv .start), sym ea) (sym ew)
+
+        pub one-more : (x : Function) → w ≡ Answer.Function x → InPage s q k₀ i₀ out₀ (k + 1) (i + 1) after (putOf out k x)
+        unfolding putOf
+        one-more x e =
+            record {
+              wrote = more (inv .wrote) entry-there (answers ∙ ap functionTold e);
+              steps = omega (arith, inv .steps);
+              room = omega (arith, room-there);
+              index = omega (arith, entry-there, inv .few);
+              few = inv .few;
+              here-is = ea;
+              start = end-fits s q i here (after .start) x (sym ew ∙ ap functionTold e);
+              list = simp length-set (inv .list);
+            }
+
+        pub one-refused : (error : Error) → w ≡ Answer.Refused error → (r : Paged) → r ≡ pagedAs k (i + 1) (Stop.Refused error) → filled r out
+        one-refused error e r er =
+            rw er (record { at = i; wrote = inv .wrote; room = inv .room; index = omega (arith, entry-there, inv .few); why = (room-there, entry-there, answers ∙ ap functionTold e, refl) })
