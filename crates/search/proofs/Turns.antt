@@ -18,9 +18,10 @@ use Rattle.search.specs.declared.Layout.{Layout}
 use Rattle.search.specs.declared.Spot.{Spot}
 use Rattle.search.specs.declared.Spots.{Spots}
 use Rattle.search.specs.declared.Span.{Span}
+use Rattle.search.specs.declared.Rest.{Rest}
 use Rattle.search.specs.declared.Going.{Going}
 use Rattle.search.specs.Search.{sizeOf, keyOf, mid, more, run, searchOf, spotsOf}
-use Rattle.search.specs.Steps.{hi, whole, going, Ready, Took, OnWay, Below, Gone, Shortest}
+use Rattle.search.specs.Steps.{hi, whole, going, spanOf, Ready, Took, OnWay, Below, Arrived}
 use Rattle.search.proofs.Laws.{spot, more-more, run-done, run-up, run-down, starts, bits}
 
 -- an entry that is one of the first so many lies in the list
@@ -188,48 +189,38 @@ none key x n e = sym (ap (run key x 0) e ∙ run-done key x 0 0 zero-le)
 pub by-layout : (list : List ℕ) (l m : Layout) (x : ℕ) {r : Spot} → l ≡ m → r ≡ searchOf list m x → r ≡ searchOf list l x
 by-layout list l m x e q = q ∙ ap (λ (k : Layout). searchOf list k x) (sym e)
 
--- one of four searches side by side: a long list, and i rounds gone; as it sets out, what lets it go on, and the rest of it
-pub record Lane (list : List ℕ) (x i : ℕ) (p : Span) : Type 0 where
-  pub long : 1024 ≤ length list
-  pub gone : Gone list x i p
+-- one of four searches side by side: its entries are no more than wide, and no fewer than narrow, less one
+pub record Lane (key : ℕ → ℕ) (x n : ℕ) (p : Rest) (narrow wide rounds : ℕ) : Type 0 where
+  pub here : Arrived key x n p wide rounds
+  pub most : narrow ≤ p .len + 1
 
-module _ (list : List ℕ) (x : ℕ) where
-  pub off : (p : Span) → 1024 ≤ length list → p ≡ whole (length list / 4) → Lane list x 0 p
-  off p h e = record { long = h; gone = rw e (record { rounds = sym (more-none _); inside = le-refl _; middle = omega arith; small = omega arith; large = omega arith }) }
+module _ (key : ℕ → ℕ) (x n : ℕ) where
+  -- as it sets out
+  pub off : (narrow wide : ℕ) → narrow ≤ n → n ≤ wide → Lane key x n (record { lo = 0; len = n }) narrow wide 0
+  off narrow wide h t = record { here = record { on = by (sets-out key x n); least = t }; most = omega arith }
+    where
+      by : OnWay key x n (going (whole n) n 0) → OnWay key x n (going (spanOf (record { lo = 0; len = n })) n 0)
+      by o = record { rounds = o .rounds; inside = o .inside; middle = refl; least = le-refl _; most = omega arith }
 
-  pub may-go : (i : ℕ) (p : Span) → Lane list x i p → i < 8 → Ready 4 (length list) p
-  may-go i p a l = goes-on _ x Layout.Compressed i _ _ p (omega arith) (a .gone) (omega (arith, a .long, pow-mono {i = i} {j = 7} (omega arith)))
+  module _ (p : Rest) (narrow wide rounds : ℕ) (a : Lane key x n p narrow wide rounds) where
+    -- what lets it go on
+    pub may-go : (l : Layout) (m : ℕ) → 2 ≤ narrow → sizeOf l * n ≤ m → Ready (sizeOf l) m (spanOf p)
+    may-go l m w h = record { fits = fewer-inside l _ _ _ (a .here .on .inside) h; some = omega (arith, a .most); middle = refl }
 
-  pub went : (i : ℕ) (p q : Span) → Lane list x i p → Took (keyOf list Layout.Compressed) x 1 p q → Lane list x (i + 1) q
-  went i p q a b = record { long = a .long; gone = then _ x i 1 _ p q (a .gone) b }
+    pub went : (q : Rest) → Took key x 1 (spanOf p) (spanOf q) → Lane key x n q (narrow / 2) (wide / 2) (rounds + 1)
+    went q t =
+        let o = onward key x n 1 _ _ (a .here .on) t in
+        record {
+          here = record { on = record { rounds = o .rounds; inside = o .inside; middle = refl; least = le-refl _; most = omega arith }; least = omega (arith, t .small, a .here .least) };
+          most = omega (arith, t .large, a .most);
+        }
 
-  pub arrived : (i : ℕ) (p : Span) → Lane list x i p → i ≡ 8 → Gone list x 8 p
-  arrived i p a e = rw e at (a .gone)
+  -- at most one entry is left
+  pub nearly : (p : Rest) (rounds : ℕ) → Arrived key x n p 1 rounds → (g : Going) → g ≡ going (spanOf p) (p .len) rounds → Below key x n 2 g
+  nearly p rounds a g e = rw e (record { on = a .on; narrow = omega (arith, a .least) })
 
-  pub rest : (p : Span) → Gone list x 8 p → OnWay (keyOf list Layout.Compressed) x (length list / 4) (going p (length list / 4 / 256) 8)
-  rest p a = onward _ x _ 8 _ p (sets-out _ x (length list / 4)) a
-
--- the least of four
-pub least : (l : Layout) (a b c d r s t : ℕ) → l ≡ Layout.Compressed → s ≡ cond (ltb a b) a b → t ≡ cond (ltb c d) c d → r ≡ cond (ltb s t) s t → Shortest l a b c d r
-least l a b c d r s t e p q u =
-    let m = less a b s p in
-    let n = less c d t q in
-    let o = less s t r u in
-    record { first = omega (arith, m, o); second = omega (arith, m, o); third = omega (arith, n, o); fourth = omega (arith, n, o); compressed = λ h. e }
-  where
-    less : (a b r : ℕ) → r ≡ cond (ltb a b) a b → (r ≤ a) × (r ≤ b)
-    less a b r e = rw e (by (ltb a b) refl)
-      where
-        by : (t : Bool) → t ≡ ltb a b → (cond t a b ≤ a) × (cond t a b ≤ b)
-        by true q = (le-refl _, omega (arith, ltb-true a b (sym q)))
-        by false q = (ltb-false a b (sym q), le-refl _)
-
-pub none-shorter : (l : Layout) (a b c d : ℕ) → Shortest l a b c d 0
-none-shorter l a b c d = record { first = zero-le; second = zero-le; third = zero-le; fourth = zero-le; compressed = λ h. absurd (omega arith) }
-
-pub four-by : (a b c d : List ℕ) (l m : Layout) (p q r s : ℕ) {t : Spots} → l ≡ m → t ≡ spotsOf (searchOf a m p) (searchOf b m q) (searchOf c m r) (searchOf d m s)
-    → t ≡ spotsOf (searchOf a l p) (searchOf b l q) (searchOf c l r) (searchOf d l s)
-four-by a b c d l m p q r s e h = rw e h
+  pub narrowed : (p : Rest) (wide rounds : ℕ) → wide < 2 → Arrived key x n p wide rounds → Arrived key x n p 1 rounds
+  narrowed p wide rounds h a = record { on = a .on; least = omega (arith, a .least) }
 
 pub each : {a b c d e f g h : Spot} → a ≡ e → b ≡ f → c ≡ g → d ≡ h → spotsOf a b c d ≡ spotsOf e f g h
 each p q r s = cc

@@ -2,12 +2,10 @@
 -- Assumes nothing.
 use Prim.Native.Nat.{ℕ, _+_, _*_, _/_, _^_, _≤_, _<_}
 use mathlib.Core.Path.{_≡_}
-use mathlib.Core.List.{List}
-use lib.ListN.{length}
-use Rattle.search.specs.declared.Layout.{Layout}
 use Rattle.search.specs.declared.Span.{Span}
+use Rattle.search.specs.declared.Rest.{Rest}
 use Rattle.search.specs.declared.Going.{Going}
-use Rattle.search.specs.Search.{keyOf, more, run}
+use Rattle.search.specs.Search.{more, run}
 
 -- just past the entries that are left
 abbrev pub hi : Span → ℕ
@@ -47,14 +45,11 @@ pub record Below (key : ℕ → ℕ) (x n bound : ℕ) (g : Going) : Type 0 wher
   pub on : OnWay key x n g
   pub narrow : g .width < bound
 
--- a search in a list of compressed functions has k rounds behind it
-abbrev pub Gone : List ℕ → ℕ → ℕ → Span → Type 0
-Gone list x k p = Took (keyOf list Layout.Compressed) x k (whole (length list / 4)) p
+-- what is left of a search, with the entry to probe next
+abbrev pub spanOf : Rest → Span
+spanOf p = record { lo = p .lo; len = p .len; mid = p .lo + p .len / 2 }
 
--- no more than any of four lengths, and above 0 for one layout only
-pub record Shortest (layout : Layout) (a b c d r : ℕ) : Type 0 where
-  pub first : r ≤ a
-  pub second : r ≤ b
-  pub third : r ≤ c
-  pub fourth : r ≤ d
-  pub compressed : 0 < r → layout ≡ Layout.Compressed
+-- a search of n entries after so many rounds, with no more than `wide` entries left
+pub record Arrived (key : ℕ → ℕ) (x n : ℕ) (p : Rest) (wide rounds : ℕ) : Type 0 where
+  pub on : OnWay key x n (going (spanOf p) (p .len) rounds)
+  pub least : p .len ≤ wide

@@ -1,11 +1,11 @@
 // The bisection over a list of entries: pages of 12 bytes, functions of 8, and functions of 4 whose key is the low 24 bits.
 ghost use mathlib.Core.Path.{_≡_};
 ghost use mathlib.Core.Bool.{cond};
-ghost use Prim.Native.Nat.{_+_, _*_, _^_, _≤_, _<_};
+ghost use Prim.Native.Nat.{_+_, _*_, _/_, _≤_, _<_};
 ghost use lib.ListN.{length};
 ghost use Rattle.reader.specs.Reader.{wordAt};
 ghost use Rattle.search.specs.Search.{sizeOf, keyOf, run, searchOf, spotsOf};
-ghost use Rattle.search.specs.Steps.{Ready, Took, OnWay, Below, Gone, Shortest, whole, going};
+ghost use Rattle.search.specs.Steps.{Ready, Took, OnWay, Below, Arrived, whole, going, spanOf};
 
 // Where a search ended: one past the entry found, 0 if there is none; and how many entries it probed.
 pub struct Spot {
@@ -34,12 +34,20 @@ struct Span {
     pub mid: usize,
 }
 
-// Four such, side by side.
-struct Spans {
-    pub a: Span,
-    pub b: Span,
-    pub c: Span,
-    pub d: Span,
+// The same of a search that goes beside others: the one to probe next is found anew, which takes a register less.
+struct Rest {
+    pub lo: usize,
+    pub len: usize,
+}
+
+// Four such after so many rounds each, none of more entries than `wide`.
+struct Rests {
+    pub a: Rest,
+    pub b: Rest,
+    pub c: Rest,
+    pub d: Rest,
+    pub wide: usize,
+    pub rounds: usize,
 }
 
 // A search on its way; its width goes by the number of entries alone, so that no turn depends on a key.
@@ -193,145 +201,213 @@ fn last(list: &[u8], layout: Layout, n: usize, x: u32, g: Going) -> Spot
     }
 }
 
-// The search of n entries, written out for each layout: so the compiler knows it in every round, and tests it in none.
-fn search_pages(list: &[u8], n: usize, x: u32) -> Spot
-    requires { ⌜ 12 * n ≤ length (now list) ⌝ }
-    ensures { λ r. ⌜ r ≡ run (keyOf (now (list .entry)) Layout.Pages) x 0 n ⌝ }
+// Index and probes are those of 01's bisection. Written out for each layout: so the compiler knows it in every round, and tests it in none.
+pub fn search_pages(list: &[u8], x: u32) -> Spot
+    ensures { λ r. ⌜ r ≡ searchOf (now (list .entry)) Layout.Pages x ⌝ }
 {
+    let n = list.len() / 12;
     let a = by_two(list, Layout::Pages, n, x, all_of(n), n, 0);
     let b = by_one(list, Layout::Pages, n, x, a);
     last(list, Layout::Pages, n, x, b)
 }
 
-fn search_regular(list: &[u8], n: usize, x: u32) -> Spot
-    requires { ⌜ 8 * n ≤ length (now list) ⌝ }
-    ensures { λ r. ⌜ r ≡ run (keyOf (now (list .entry)) Layout.Regular) x 0 n ⌝ }
+pub fn search_regular(list: &[u8], x: u32) -> Spot
+    ensures { λ r. ⌜ r ≡ searchOf (now (list .entry)) Layout.Regular x ⌝ }
 {
+    let n = list.len() / 8;
     let a = by_two(list, Layout::Regular, n, x, all_of(n), n, 0);
     let b = by_one(list, Layout::Regular, n, x, a);
     last(list, Layout::Regular, n, x, b)
 }
 
-fn search_compressed(list: &[u8], n: usize, x: u32) -> Spot
-    requires { ⌜ 4 * n ≤ length (now list) ⌝ }
-    ensures { λ r. ⌜ r ≡ run (keyOf (now (list .entry)) Layout.Compressed) x 0 n ⌝ }
+pub fn search_compressed(list: &[u8], x: u32) -> Spot
+    ensures { λ r. ⌜ r ≡ searchOf (now (list .entry)) Layout.Compressed x ⌝ }
 {
+    let n = list.len() / 4;
     let a = by_two(list, Layout::Compressed, n, x, all_of(n), n, 0);
     let b = by_one(list, Layout::Compressed, n, x, a);
     last(list, Layout::Compressed, n, x, b)
 }
 
-// Index and probes are those of 01's bisection.
-pub fn search(list: &[u8], layout: Layout, x: u32) -> Spot
-    ensures { λ r. ⌜ r ≡ searchOf (now (list .entry)) layout x ⌝ }
-{
-    match layout {
-        Layout::Pages => search_pages(list, list.len() / 12, x),
-        Layout::Regular => search_regular(list, list.len() / 8, x),
-        Layout::Compressed => search_compressed(list, list.len() / 4, x),
-    }
-}
-
 // One round too. For speed where others go beside it: it waits longer for its key, and has less to do.
-fn lean_step(list: &[u8], x: u32, p: Span) -> Span
-    requires { ⌜ Ready 4 (length (now list)) p ⌝ }
-    ensures { λ r. ⌜ Took (keyOf (now (list .entry)) Layout.Compressed) x 1 p r ⌝ }
+fn halve(list: &[u8], layout: Layout, x: u32, p: Rest) -> Rest
+    requires { ⌜ Ready (sizeOf layout) (length (now list)) (spanOf p) ⌝ }
+    ensures { λ r. ⌜ Took (keyOf (now (list .entry)) layout) x 1 (spanOf p) (spanOf r) ⌝ }
 {
     let lo = p.lo;
     let len = p.len;
-    let mid = p.mid;
-    let up = (probe(list, Layout::Compressed, mid) as u64) < x as u64 + 1;
-    let first = either(up, mid + 1, lo);
-    let rest = either(up, len - 1, len) / 2;
-    Span {
-        lo: first,
-        len: rest,
-        mid: first + rest / 2,
+    let mid = lo + len / 2;
+    let up = (probe(list, layout, mid) as u64) < x as u64 + 1;
+    Rest {
+        lo: either(up, mid + 1, lo),
+        len: either(up, len - 1, len) / 2,
     }
 }
 
-// Eight rounds of four searches side by side: for speed, as no round waits for another's.
-fn eight(a: &[u8], xa: u32, b: &[u8], xb: u32, c: &[u8], xc: u32, d: &[u8], xd: u32) -> Spans
-    requires { ⌜ (1024 ≤ length (now a)) × (1024 ≤ length (now b)) × (1024 ≤ length (now c)) × (1024 ≤ length (now d)) ⌝ }
-    ensures { λ r. ⌜ Gone (now (a .entry)) xa 8 (r .a) × Gone (now (b .entry)) xb 8 (r .b) × Gone (now (c .entry)) xc 8 (r .c) × Gone (now (d .entry)) xd 8 (r .d) ⌝ }
+// Four searches of one list side by side, to their last rounds: for speed, as no round waits for another's.
+fn down_pages(list: &[u8], n: usize, xa: u32, xb: u32, xc: u32, xd: u32) -> Rests
+    requires { ⌜ 12 * n ≤ length (now list) ⌝ }
+    ensures { λ r. ⌜ Arrived (keyOf (now (list .entry)) Layout.Pages) xa n (r .a) 1 (r .rounds) × Arrived (keyOf (now (list .entry)) Layout.Pages) xb n (r .b) 1 (r .rounds) × Arrived (keyOf (now (list .entry)) Layout.Pages) xc n (r .c) 1 (r .rounds) × Arrived (keyOf (now (list .entry)) Layout.Pages) xd n (r .d) 1 (r .rounds) ⌝ }
 {
-    let mut pa = all_of(a.len() / 4);
-    let mut pb = all_of(b.len() / 4);
-    let mut pc = all_of(c.len() / 4);
-    let mut pd = all_of(d.len() / 4);
-    let mut i: usize = 0;
-    while i < 8 {
-        pa = lean_step(a, xa, pa);
-        pb = lean_step(b, xb, pb);
-        pc = lean_step(c, xc, pc);
-        pd = lean_step(d, xd, pd);
-        i += 1;
+    let mut a = Rest { lo: 0, len: n };
+    let mut b = Rest { lo: 0, len: n };
+    let mut c = Rest { lo: 0, len: n };
+    let mut d = Rest { lo: 0, len: n };
+    let mut wide = n;
+    let mut rounds: usize = 0;
+    while wide >= 2 {
+        a = halve(list, Layout::Pages, xa, a);
+        b = halve(list, Layout::Pages, xb, b);
+        c = halve(list, Layout::Pages, xc, c);
+        d = halve(list, Layout::Pages, xd, d);
+        wide = wide / 2;
+        rounds += 1;
     }
-    Spans {
-        a: pa,
-        b: pb,
-        c: pc,
-        d: pd,
+    Rests {
+        a,
+        b,
+        c,
+        d,
+        wide,
+        rounds,
     }
 }
 
-// The rest of a search that has eight rounds behind it.
-fn after_eight(list: &[u8], x: u32, p: Span) -> Spot
-    requires { ⌜ Gone (now list) x 8 p ⌝ }
+// The search on its way again.
+fn going_on(p: Rest, rounds: usize) -> Going
+    requires { ⌜ p .lo + p .len < 18446744073709551616 ⌝ }
+    ensures { λ r. ⌜ r ≡ going (spanOf p) (p .len) rounds ⌝ }
+{
+    let lo = p.lo;
+    let len = p.len;
+    Going {
+        left: Span {
+            lo,
+            len,
+            mid: lo + len / 2,
+        },
+        width: len,
+        probes: rounds,
+    }
+}
+
+// Where it ends, with at most one entry left.
+fn ended(list: &[u8], layout: Layout, n: usize, x: u32, p: Rest, rounds: usize) -> Spot
+    requires { ⌜ (sizeOf layout * n ≤ length (now list)) × Arrived (keyOf (now list) layout) x n p 1 rounds ⌝ }
+    ensures { λ r. ⌜ r ≡ run (keyOf (now (list .entry)) layout) x 0 n ⌝ }
+{
+    last(list, layout, n, x, going_on(p, rounds))
+}
+
+pub fn four_pages(list: &[u8], xa: u32, xb: u32, xc: u32, xd: u32) -> Spots
+    ensures { λ r. ⌜ r ≡ spotsOf (searchOf (now (list .entry)) Layout.Pages xa) (searchOf (now (list .entry)) Layout.Pages xb) (searchOf (now (list .entry)) Layout.Pages xc) (searchOf (now (list .entry)) Layout.Pages xd) ⌝ }
+{
+    let n = list.len() / 12;
+    let p = down_pages(list, n, xa, xb, xc, xd);
+    let rounds = p.rounds;
+    Spots {
+        a: ended(list, Layout::Pages, n, xa, p.a, rounds),
+        b: ended(list, Layout::Pages, n, xb, p.b, rounds),
+        c: ended(list, Layout::Pages, n, xc, p.c, rounds),
+        d: ended(list, Layout::Pages, n, xd, p.d, rounds),
+    }
+}
+
+fn fewer(a: usize, b: usize) -> usize
+    ensures { λ r. ⌜ (r ≤ a) × (r ≤ b) ⌝ }
+{
+    if a < b { a } else { b }
+}
+
+fn more(a: usize, b: usize) -> usize
+    ensures { λ r. ⌜ (a ≤ r) × (b ≤ r) ⌝ }
+{
+    if a < b { b } else { a }
+}
+
+// The same in four lists of compressed functions, as long as each has entries to probe.
+fn down_compressed(
+    la: &[u8],
+    xa: u32,
+    lb: &[u8],
+    xb: u32,
+    lc: &[u8],
+    xc: u32,
+    ld: &[u8],
+    xd: u32,
+) -> Rests
+    ensures { λ r. ⌜ Arrived (keyOf (now (la .entry)) Layout.Compressed) xa (length (now (la .entry)) / 4) (r .a) (r .wide) (r .rounds) × Arrived (keyOf (now (lb .entry)) Layout.Compressed) xb (length (now (lb .entry)) / 4) (r .b) (r .wide) (r .rounds) × Arrived (keyOf (now (lc .entry)) Layout.Compressed) xc (length (now (lc .entry)) / 4) (r .c) (r .wide) (r .rounds) × Arrived (keyOf (now (ld .entry)) Layout.Compressed) xd (length (now (ld .entry)) / 4) (r .d) (r .wide) (r .rounds) ⌝ }
+{
+    let na = la.len() / 4;
+    let nb = lb.len() / 4;
+    let nc = lc.len() / 4;
+    let nd = ld.len() / 4;
+    let mut a = Rest { lo: 0, len: na };
+    let mut b = Rest { lo: 0, len: nb };
+    let mut c = Rest { lo: 0, len: nc };
+    let mut d = Rest { lo: 0, len: nd };
+    let mut narrow = fewer(fewer(na, nb), fewer(nc, nd));
+    let mut wide = more(more(na, nb), more(nc, nd));
+    let mut rounds: usize = 0;
+    while narrow >= 2 {
+        a = halve(la, Layout::Compressed, xa, a);
+        b = halve(lb, Layout::Compressed, xb, b);
+        c = halve(lc, Layout::Compressed, xc, c);
+        d = halve(ld, Layout::Compressed, xd, d);
+        narrow = narrow / 2;
+        wide = wide / 2;
+        rounds += 1;
+    }
+    Rests {
+        a,
+        b,
+        c,
+        d,
+        wide,
+        rounds,
+    }
+}
+
+// The rest of a search that has others no more beside it.
+fn alone(list: &[u8], x: u32, p: Rest, rounds: usize) -> Spot
+    requires { ⌜ OnWay (keyOf (now list) Layout.Compressed) x (length (now list) / 4) (going (spanOf p) (p .len) rounds) ⌝ }
     ensures { λ r. ⌜ r ≡ searchOf (now (list .entry)) Layout.Compressed x ⌝ }
 {
     let n = list.len() / 4;
-    let g = by_two(list, Layout::Compressed, n, x, p, n / 256, 8);
+    let f = going_on(p, rounds);
+    let g = by_two(list, Layout::Compressed, n, x, f.left, f.width, rounds);
     let h = by_one(list, Layout::Compressed, n, x, g);
     last(list, Layout::Compressed, n, x, h)
 }
 
-fn long_four(a: &[u8], xa: u32, b: &[u8], xb: u32, c: &[u8], xc: u32, d: &[u8], xd: u32) -> Spots
-    requires { ⌜ (1024 ≤ length (now a)) × (1024 ≤ length (now b)) × (1024 ≤ length (now c)) × (1024 ≤ length (now d)) ⌝ }
-    ensures { λ r. ⌜ r ≡ spotsOf (searchOf (now (a .entry)) Layout.Compressed xa) (searchOf (now (b .entry)) Layout.Compressed xb) (searchOf (now (c .entry)) Layout.Compressed xc) (searchOf (now (d .entry)) Layout.Compressed xd) ⌝ }
-{
-    let p = eight(a, xa, b, xb, c, xc, d, xd);
-    Spots {
-        a: after_eight(a, xa, p.a),
-        b: after_eight(b, xb, p.b),
-        c: after_eight(c, xc, p.c),
-        d: after_eight(d, xd, p.d),
-    }
-}
-
-// The least of four lengths; 0 unless the lists are compressed.
-fn shortest(layout: Layout, a: usize, b: usize, c: usize, d: usize) -> usize
-    ensures { λ r. ⌜ Shortest layout a b c d r ⌝ }
-{
-    let Layout::Compressed = layout else {
-        return 0;
-    };
-    let ab = either(a < b, a, b);
-    let cd = either(c < d, c, d);
-    either(ab < cd, ab, cd)
-}
-
-// Four searches, each in its own list. Those of long lists of compressed functions go side by side; with others it gains nothing.
-pub fn search_four(
-    layout: Layout,
-    a: &[u8],
+// Four searches side by side, each in its own list. Lists of very different lengths part before their last rounds.
+pub fn four_compressed(
+    la: &[u8],
     xa: u32,
-    b: &[u8],
+    lb: &[u8],
     xb: u32,
-    c: &[u8],
+    lc: &[u8],
     xc: u32,
-    d: &[u8],
+    ld: &[u8],
     xd: u32,
 ) -> Spots
-    ensures { λ r. ⌜ r ≡ spotsOf (searchOf (now (a .entry)) layout xa) (searchOf (now (b .entry)) layout xb) (searchOf (now (c .entry)) layout xc) (searchOf (now (d .entry)) layout xd) ⌝ }
+    ensures { λ r. ⌜ r ≡ spotsOf (searchOf (now (la .entry)) Layout.Compressed xa) (searchOf (now (lb .entry)) Layout.Compressed xb) (searchOf (now (lc .entry)) Layout.Compressed xc) (searchOf (now (ld .entry)) Layout.Compressed xd) ⌝ }
 {
-    if shortest(layout, a.len(), b.len(), c.len(), d.len()) >= 1024 {
-        return long_four(a, xa, b, xb, c, xc, d, xd);
+    let p = down_compressed(la, xa, lb, xb, lc, xc, ld, xd);
+    let wide = p.wide;
+    let rounds = p.rounds;
+    if wide >= 2 {
+        return Spots {
+            a: alone(la, xa, p.a, rounds),
+            b: alone(lb, xb, p.b, rounds),
+            c: alone(lc, xc, p.c, rounds),
+            d: alone(ld, xd, p.d, rounds),
+        };
     }
     Spots {
-        a: search(a, layout, xa),
-        b: search(b, layout, xb),
-        c: search(c, layout, xc),
-        d: search(d, layout, xd),
+        a: ended(la, Layout::Compressed, la.len() / 4, xa, p.a, rounds),
+        b: ended(lb, Layout::Compressed, lb.len() / 4, xb, p.b, rounds),
+        c: ended(lc, Layout::Compressed, lc.len() / 4, xc, p.c, rounds),
+        d: ended(ld, Layout::Compressed, ld.len() / 4, xd, p.d, rounds),
     }
 }
