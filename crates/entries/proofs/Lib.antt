@@ -1,3 +1,5 @@
 pub mod Cases
 pub mod Places
 pub mod One
+pub mod Straight
+pub mod Reading

@@ -3,6 +3,7 @@ ghost use mathlib.Core.Path.{_≡_};
 ghost use mathlib.Core.Bool.{not, _||_};
 ghost use Rattle.raw.specs.Raw.{layout, localsGranted, pageTold};
 ghost use Rattle.entries.specs.Section.{openedAt};
+ghost use Rattle.entries.specs.Straight.{sourceFrom};
 ghost use Rattle.entries.specs.Entries.{functionsOf, localsOf, fourOf, opcodePart, isGlobal, startIn, endIn, resolveOf, opcodeIn, functionIn, functionOf, functionTold, opcodeTold};
 use raw::Error;
 use raw::Kind;
@@ -26,6 +27,46 @@ pub enum Answer {
 pub enum Resolved {
     Opcode(u32),
     Refused(Error),
+}
+
+// Where the section has what a page's functions are read from, computed once for all of them. What is read so is read with no test of its
+// own: the law `straight` says that it is the function.
+pub struct Source {
+    pub kind: Kind,
+    pub base: u32,
+    pub next: u32,
+    pub first: usize,
+    pub entries: u32,
+    pub globals: usize,
+    pub globals_end: usize,
+    pub locals_at: usize,
+    pub opcodes: usize,
+}
+
+// An entry's first word, and where its function starts.
+pub struct Entry {
+    pub word: u32,
+    pub start: u64,
+}
+
+// The source of the page at the offset, before the address where the next one starts.
+pub fn source_of(lists: Lists, offset: u32, next: u32, pg: Page) -> Source
+    ensures { λ r. ⌜ r ≡ sourceFrom lists offset next pg ⌝ }
+{
+    let kind = pg.kind;
+    let page = offset as usize;
+    let globals = lists.global_opcodes_len as usize;
+    Source {
+        kind,
+        base: pg.base,
+        next,
+        first: page + pg.functions_offset as usize,
+        entries: pg.functions_len,
+        globals,
+        globals_end: lists.global_opcodes_offset as usize + 4 * globals,
+        locals_at: page + pg.local_opcodes_offset as usize,
+        opcodes: globals + pg.local_opcodes_len as usize,
+    }
 }
 
 pub fn layout_of(kind: Kind) -> Layout

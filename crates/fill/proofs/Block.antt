@@ -6,15 +6,17 @@ use mathlib.Core.List.{List, [], _∷_, _++_, append-nil, append-assoc}
 use mathlib.Core.Logic.{_⊎_, ⊎-elim}
 use native.Mathlib.Nat.{sub-zero}
 use native.Mathlib.Omega.{arith}
-use lib.ListN.{length, length-append}
+use mathlib.Core.Bool.{true}
+use lib.ListN.{length, drop, length-append}
 use Rattle.raw.specs.declared.Lists.{Lists}
 use Rattle.raw.specs.declared.Page.{Page}
 use Rattle.raw.specs.declared.Error.{Error}
 use Rattle.raw.specs.declared.Opened.{Opened}
 use Rattle.raw.specs.Checked.{Checked, good, refused, numberOf}
-use Rattle.raw.specs.Raw.{grantOf, pageTold}
+use Rattle.raw.specs.Raw.{grantOf, pageOf, localsGranted, pageTold}
+use Rattle.raw.proofs.Opens.{opened-reads}
 use Rattle.entries.specs.declared.Function.{Function}
-use Rattle.entries.specs.Section.{openedAt, functionAt}
+use Rattle.entries.specs.Section.{firstOf, offsetOf, pageAt, openedAt, functionAt}
 use Rattle.iterate.specs.declared.Cursor.{Cursor}
 use Rattle.iterate.specs.Iterate.{cursor, endCursor}
 use Rattle.iterate.proofs.Iteration.{at-end, page-refused, page-function, page-past}
@@ -22,11 +24,11 @@ use Rattle.fill.specs.declared.Filled.{Filled}
 use Rattle.fill.specs.declared.Stop.{Stop}
 use Rattle.fill.specs.Fill.{Why, full, ended, refusal, Taken, after, stopping, takenOf, numbersOf, writtenOver, Outcome, outcome, fillOf, whyOf, filled, filledTold}
 use Rattle.fill.specs.declared.Paged.{Paged}
-use Rattle.fill.specs.declared.Source.{Source}
-use Rattle.fill.specs.Straight.{sourceOf, Inside, functionFrom}
-use Rattle.fill.specs.Block.{putOf, Wrote, none, more, Stops, PageFilled, OnWay}
+use Rattle.entries.specs.declared.Source.{Source}
+use Rattle.entries.specs.Straight.{Inside, functionFrom}
+use Rattle.fill.specs.Block.{sourceOf, putOf, Wrote, none, more, Stops, PageFilled, OnWay}
 use Rattle.fill.proofs.Writing.{length-written, put-next}
-use Rattle.fill.proofs.Straight.{straight, locals-granted, lies-inside}
+use Rattle.entries.proofs.Straight.{straight, lies-inside}
 
 -- the calls from a cursor on, where there is room
 module _ (s : List ℕ) (l : Lists) where
@@ -120,14 +122,22 @@ module _ (s : List ℕ) (l : Lists) (g : grantOf s l ≡ good l) (p : ℕ) (h : 
   opens : openedAt s l p ≡ good pg
   opens = sym ew ∙ ap pageTold e
 
+  read : (pageOf s (offsetOf s l p) (firstOf s l p) ≡ good pg) × (localsGranted (drop (offsetOf s l p) s) pg ≡ true)
+  unfolding openedAt
+  read = opened-reads s (offsetOf s l p) (firstOf s l p) pg opens
+
+  lies : Inside s (sourceOf s l p pg)
+  lies = lies-inside s l (offsetOf s l p) (firstOf s l (suc p)) pg g (firstOf s l p) (read .0) (read .1)
+
   pub inside : Inside s q
-  inside = rw eq (lies-inside s l p pg g opens)
+  inside = rw eq lies
 
   count : q .entries ≡ pg .«functions_len»
   count = ap (λ (x : Source). x .entries) eq
 
   same : (i : ℕ) → i < pg .«functions_len» → functionFrom s q i ≡ functionAt s l p pg i
-  same i t = ap (λ (x : Source). functionFrom s x i) eq ∙ straight s l p pg (lies-inside s l p pg g opens) (locals-granted s l p pg g opens) i t
+  unfolding functionAt pageAt
+  same i t = ap (λ (x : Source). functionFrom s x i) eq ∙ straight s l (offsetOf s l p) (firstOf s l (suc p)) pg lies (read .1) i t
 
   module _ (c₀ : Cursor) (out₀ : List ℕ) (k i : ℕ) (out : List ℕ) (inv : OnWay s l c₀ out₀ k p i out) (r : Paged) (out′ : List ℕ) (f : PageFilled (functionFrom s q) (q .entries) k i out r out′) where
     room-is : length out / 3 ≡ length out₀ / 3

@@ -1,5 +1,4 @@
 pub mod Writing
-pub mod Straight
 pub mod Turns
 pub mod Block
 pub mod Left

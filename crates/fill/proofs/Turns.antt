@@ -16,77 +16,23 @@ use Rattle.raw.specs.Raw.{layout}
 use Rattle.entries.specs.declared.Function.{Function}
 use Rattle.entries.specs.declared.Answer.{Answer}
 use Rattle.entries.specs.Entries.{functionTold}
-use Rattle.fill.specs.declared.Source.{Source}
-use Rattle.fill.specs.declared.Entry.{Entry}
+use Rattle.entries.specs.declared.Source.{Source}
+use Rattle.entries.specs.declared.Entry.{Entry}
 use Rattle.fill.specs.declared.Paged.{Paged}
 use Rattle.fill.specs.declared.Stop.{Stop}
-use Rattle.fill.specs.Straight.{Inside, seamOf, entryBy, entryOf, opcodeBy, functionTo, functionFrom}
+use Rattle.entries.proofs.Reading.{no-entry, an-entry, end-too-large}
+use Rattle.entries.specs.Straight.{Inside, seamOf, entryBy, entryOf, opcodeBy, functionTo, functionFrom}
 use Rattle.fill.specs.Block.{putOf, Wrote, none, more, pagedAs, PageFilled, InPage}
 
-module _ (s : List ℕ) (q : Source) (inside : Inside s q) where
-  -- an entry that is there lies in the section
-  pub entry-inside : (k : Kind) (i : ℕ) → q .kind ≡ k → i < q .entries → q .first + sizeOf (layout k) * i + sizeOf (layout k) ≤ length s
-  entry-inside Kind.Regular i e t =
-      let h : q .first + 8 * q .entries ≤ length s = rw e at (inside .entries) in
-      omega arith
-  entry-inside Kind.Compressed i e t =
-      let h : q .first + 4 * q .entries ≤ length s = rw e at (inside .entries) in
-      omega arith
-
-  -- and so does an opcode
-  pub opcode-inside : (index m : ℕ) → index < q .opcodes → m ≡ seamOf q index → (4 * q .globals ≤ m + 4 * index) × (m + 4 * index + 4 ≤ length s + 4 * q .globals)
-  unfolding seamOf
-  opcode-inside index m t e = by-place (decLt index (q .globals))
-    where
-      by-place : Dec (index < q .globals) → (4 * q .globals ≤ m + 4 * index) × (m + 4 * index + 4 ≤ length s + 4 * q .globals)
-      by-place (yes g) =
-          let at : m ≡ q .«globals_end» = e ∙ simp (lt-ltb index (q .globals) g) in
-          (omega (arith, inside .below), omega (arith, inside .globals))
-      by-place (no g) =
-          let at : m ≡ q .«locals_at» = e ∙ simp (le-ltb index (q .globals) (omega arith)) in
-          (omega arith, omega (arith, inside .locals))
-
+-- an end that was taken is no more than that
 module _ (s : List ℕ) (q : Source) (i : ℕ) where
-  pub no-entry : q .entries ≤ i → record { word = 0; start = q .next } ≡ entryOf s q i
-  unfolding entryOf
-  no-entry h = simp (le-ltb i (q .entries) h)
-
-  pub an-entry : (k : Kind) → q .kind ≡ k → i < q .entries → (e : Entry) → e ≡ entryBy s q k i → e ≡ entryOf s q i
-  unfolding entryOf
-  an-entry k p h e t = t ∙ simp (lt-ltb i (q .entries) h, p)
-
-  -- the function of an entry, up to an end
-  module _ (here : Entry) (end : ℕ) where
-    abbrev with : ℕ → Function
-    with x = record { «start_address» = here .start; «end_address» = end; opcode = x }
-
-    pub end-too-large : 4294967296 ≤ end → refused 13 ≡ functionTo s q i here end
-    unfolding functionTo
-    end-too-large h = simp (le-ltb end 4294967296 h)
-
-    module _ (h : end < 4294967296) where
-      pub regular : q .kind ≡ Kind.Regular → (x : ℕ) → x ≡ wordAt 4 s (q .first + 8 * i + 4) → good (with x) ≡ functionTo s q i here end
-      unfolding functionTo opcodeBy
-      regular p x e = simp (lt-ltb end 4294967296 h, p, e)
-
-      module _ (p : q .kind ≡ Kind.Compressed) where
-        pub no-opcode : q .opcodes ≤ here .word / 16777216 → refused 14 ≡ functionTo s q i here end
-        unfolding functionTo opcodeBy
-        no-opcode t = simp (lt-ltb end 4294967296 h, p, le-ltb (here .word / 16777216) (q .opcodes) t)
-
-        pub compressed : here .word / 16777216 < q .opcodes → (m x : ℕ) → m ≡ seamOf q (here .word / 16777216) → x ≡ wordAt 4 s (m + 4 * (here .word / 16777216) - 4 * q .globals)
-            → good (with x) ≡ functionTo s q i here end
-        unfolding functionTo opcodeBy
-        compressed t m x em ex = simp (lt-ltb end 4294967296 h, p, lt-ltb (here .word / 16777216) (q .opcodes) t, ex, em)
-
-  -- an end that was taken is no more than that
   end-fits : (here : Entry) (end : ℕ) (x : Function) → functionTo s q i here end ≡ good x → end < 4294967296
   unfolding functionTo
   end-fits here end x e = by-room (decLt end 4294967296)
     where
       by-room : Dec (end < 4294967296) → end < 4294967296
       by-room (yes h) = h
-      by-room (no h) = absurd (let z : _≡_ {A = ℕ} 0 1 = cc (end-too-large here end (omega arith)) in omega arith)
+      by-room (no h) = absurd (let z : _≡_ {A = ℕ} 0 1 = cc (end-too-large s q i here end (omega arith)) in omega arith)
 
 module _ (s : List ℕ) (q : Source) (k₀ i₀ : ℕ) (out₀ : List ℕ) (h₀ : k₀ < length out₀ / 3) where
   abbrev filled : Paged → List ℕ → Type 0

@@ -1,20 +1,26 @@
 -- A block on its way: which functions stand in the list, and what is still to come.
 -- Assumes nothing.
-use Prim.Native.Nat.{ℕ, _+_, _-_, _*_, _/_, _≤_, _<_}
+use Prim.Native.Nat.{ℕ, suc, _+_, _-_, _*_, _/_, _≤_, _<_}
 use mathlib.Core.Path.{_≡_}
 use mathlib.Core.List.{List}
 use lib.ListN.{length, set}
 use Rattle.raw.specs.declared.Lists.{Lists}
+use Rattle.raw.specs.declared.Page.{Page}
 use Rattle.raw.specs.Checked.{Checked, good, refused, numberOf}
 use Rattle.entries.specs.declared.Function.{Function}
+use Rattle.entries.specs.Section.{firstOf, offsetOf}
 use Rattle.iterate.specs.Iterate.{cursor}
 use Rattle.iterate.specs.declared.Cursor.{Cursor}
 use Rattle.fill.specs.declared.Paged.{Paged}
 use Rattle.fill.specs.declared.Stop.{Stop}
-use Rattle.fill.specs.declared.Source.{Source}
-use Rattle.fill.specs.declared.Entry.{Entry}
+use Rattle.entries.specs.declared.Source.{Source}
+use Rattle.entries.specs.declared.Entry.{Entry}
 use Rattle.fill.specs.Fill.{after, takenOf, writtenOver}
-use Rattle.fill.specs.Straight.{entryOf, functionFrom}
+use Rattle.entries.specs.Straight.{sourceFrom, entryOf, functionFrom}
+
+-- what page p's functions are read from
+abbrev pub sourceOf : List ℕ → Lists → ℕ → Page → Source
+sourceOf s l p pg = sourceFrom l (offsetOf s l p) (firstOf s l (suc p)) pg
 
 -- a function written as the k-th of the list
 unfoldable pub putOf : List ℕ → ℕ → Function → List ℕ

@@ -1,3 +1,2 @@
 pub mod Fill
-pub mod Straight
 pub mod Block

@@ -6,11 +6,13 @@ ghost use Rattle.reader.specs.Reader.{wordAt};
 ghost use Rattle.raw.specs.Checked.{good};
 ghost use Rattle.raw.specs.Raw.{grantOf};
 ghost use Rattle.entries.specs.Entries.{functionTold};
-ghost use Rattle.fill.specs.Straight.{sourceOf, Inside, entryOf, seamOf, functionTo, functionFrom};
-ghost use Rattle.fill.specs.Block.{putOf, pagedAs, PageFilled};
+ghost use Rattle.entries.specs.Straight.{Inside, entryOf, seamOf, functionTo, functionFrom};
+ghost use Rattle.fill.specs.Block.{sourceOf, putOf, pagedAs, PageFilled};
 ghost use Rattle.fill.specs.Fill.{filled, fillOf, fillIn, fillOn, filledTold};
 use entries::Answer;
+use entries::Entry;
 use entries::Function;
+use entries::Source;
 use iterate::Cursor;
 use raw::Error;
 use raw::Kind;
@@ -38,25 +40,6 @@ struct Paged {
     pub functions: usize,
     pub index: usize,
     pub stop: Stop,
-}
-
-// Where the section has what a page's functions are read from; computed once for all of them.
-struct Source {
-    pub kind: Kind,
-    pub base: u32,
-    pub next: u32,
-    pub first: usize,
-    pub entries: u32,
-    pub globals: usize,
-    pub globals_end: usize,
-    pub locals_at: usize,
-    pub opcodes: usize,
-}
-
-// An entry's first word, and where its function starts.
-struct Entry {
-    pub word: u32,
-    pub start: u64,
 }
 
 // Writes a function as the k-th of the list.
@@ -89,21 +72,9 @@ fn source_of(s: &[u8], lists: Lists, p: u32, pg: Page) -> Source
     ensures { λ r. ⌜ r ≡ sourceOf (now (s .entry)) lists p pg ⌝ }
 {
     let pages = raw::pages(s, lists);
-    let page = raw::page_offset(pages, p) as usize;
+    let offset = raw::page_offset(pages, p);
     let next = raw::first_address(pages, p + 1);
-    let kind = pg.kind;
-    let globals = lists.global_opcodes_len as usize;
-    Source {
-        kind,
-        base: pg.base,
-        next,
-        first: page + pg.functions_offset as usize,
-        entries: pg.functions_len,
-        globals,
-        globals_end: lists.global_opcodes_offset as usize + 4 * globals,
-        locals_at: page + pg.local_opcodes_offset as usize,
-        opcodes: globals + pg.local_opcodes_len as usize,
-    }
+    entries::source_of(lists, offset, next, pg)
 }
 
 // Entry i; past the last, the next page's first address.

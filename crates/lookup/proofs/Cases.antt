@@ -13,6 +13,7 @@ use Rattle.search.specs.declared.Spot.{Spot}
 use Rattle.search.specs.declared.Layout.{Layout}
 use Rattle.search.specs.Search.{sizeOf, countOf, keyOf, searchOf}
 use Rattle.search.proofs.Laws as search
+use Rattle.raw.specs.declared.Kind.{Kind}
 use Rattle.raw.specs.declared.Lists.{Lists}
 use Rattle.raw.specs.declared.Page.{Page}
 use Rattle.raw.specs.declared.Opened.{Opened}
@@ -26,6 +27,10 @@ use Rattle.entries.specs.Section.{firstOf, offsetOf, pageAt, functionAt}
 use Rattle.lookup.specs.Searched.{foundIn, searchedIn}
 use Rattle.lookup.specs.Lookup.{Looked, nothing, refusal, telling, fromSpot, fromPage, atPage, fromPages, lookupOf}
 use Rattle.lookup.proofs.Steps.{no-page, last-page, a-page}
+
+-- by the page's kind
+pub by-kind : (list : List ℕ) (j k : Kind) (x : ℕ) {r : Spot} → j ≡ k → r ≡ searchOf list (layout k) x → r ≡ searchOf list (layout j) x
+by-kind list j k x e q = q ∙ ap (λ (m : Kind). searchOf list (layout m) x) (sym e)
 
 -- a part of so many entries has at most so many
 pub counted : (l : Layout) (s : List ℕ) (o n : ℕ) → countOf (partOf s o (sizeOf l * n)) l ≤ n

@@ -3,7 +3,7 @@ ghost use mathlib.Core.Path.{_≡_};
 ghost use Prim.Native.Nat.{_+_, _-_, _*_, _≤_, _<_};
 ghost use lib.ListN.{length};
 ghost use Rattle.reader.specs.Reader.{wordAt, partOf};
-ghost use Rattle.search.specs.Search.{sizeOf, keyOf};
+ghost use Rattle.search.specs.Search.{sizeOf, keyOf, searchOf};
 ghost use Rattle.raw.specs.Checked.{good};
 ghost use Rattle.raw.specs.Raw.{grantOf, pagesOf, pageOf, localsGranted, layout, pageTold};
 ghost use Rattle.entries.specs.Entries.{functionsOf, localsOf, endIn, resolveOf, opcodeIn, functionIn, opcodeTold};
@@ -17,7 +17,7 @@ use raw::Lists;
 use raw::Opened;
 use raw::Page;
 use raw::Parsed;
-use search::Layout;
+use search::Spot;
 
 // What was found, with the number of entries that the searches probed.
 pub enum Found {
@@ -165,6 +165,16 @@ fn functions_of(page: &[u8], pg: Page) -> &[u8]
     }
 }
 
+// The search in a page's list; one call for each layout, so that each is laid out where it is called.
+fn search_in(functions: &[u8], kind: Kind, x: u32) -> Spot
+    ensures { λ r. ⌜ r ≡ searchOf (now (functions .entry)) (layout kind) x ⌝ }
+{
+    match kind {
+        Kind::Regular => search::search_regular(functions, x),
+        Kind::Compressed => search::search_compressed(functions, x),
+    }
+}
+
 // In page p at the offset, which was read as pg.
 fn in_page(globals: &[u8], page: &[u8], pg: Page, next: u32, pc: u32, probes: u32) -> Found
     requires { ⌜ (probes ≤ 64) × (pg .«functions_offset» + sizeOf (layout (pg .kind)) * pg .«functions_len» ≤ length (now page)) ⌝ }
@@ -173,7 +183,7 @@ fn in_page(globals: &[u8], page: &[u8], pg: Page, next: u32, pc: u32, probes: u3
     let base = pg.base;
     let kind = pg.kind;
     let functions = functions_of(page, pg);
-    let spot = search::search(functions, entries::layout_of(kind), above(pc, base));
+    let spot = search_in(functions, kind, above(pc, base));
     let at = spot.at;
     let all = probes + spot.probes;
     if at == 0 {
@@ -220,7 +230,7 @@ fn lookup_of(s: &[u8], lists: Lists, pc: u32) -> Found
     let pages_at = lists.pages_offset;
     let n = lists.pages_len;
     let pages = inside(s, pages_at as usize, 12 * n as usize);
-    let spot = search::search(pages, Layout::Pages, pc);
+    let spot = search::search_pages(pages, pc);
     let at = spot.at;
     let probes = spot.probes;
     if at == 0 {
@@ -246,7 +256,7 @@ pub fn lookup(s: &[u8], pc: u32) -> Found
     ensures { λ r. ⌜ lookedTold r ≡ lookupOn (now (s .entry)) pc ⌝ }
 {
     match raw::parse(s) {
-        Parsed::Whole(lists) => lookup_in(s, lists, pc),
+        Parsed::Whole(lists) => lookup_of(s, lists, pc),
         Parsed::Refused(error) => Found::Refused { error, probes: 0 },
     }
 }

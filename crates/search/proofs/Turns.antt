@@ -20,7 +20,7 @@ use Rattle.search.specs.declared.Spots.{Spots}
 use Rattle.search.specs.declared.Span.{Span}
 use Rattle.search.specs.declared.Rest.{Rest}
 use Rattle.search.specs.declared.Going.{Going}
-use Rattle.search.specs.Search.{sizeOf, keyOf, mid, more, run, searchOf, spotsOf}
+use Rattle.search.specs.Search.{sizeOf, mid, more, run, spotsOf}
 use Rattle.search.specs.Steps.{hi, whole, going, spanOf, Ready, Took, OnWay, Below, Arrived}
 use Rattle.search.proofs.Laws.{spot, more-more, run-done, run-up, run-down, starts, bits}
 
@@ -182,12 +182,9 @@ module _ (key : ℕ → ℕ) (x : ℕ) where
           by-rest (no h) =
               ended (g .left .lo) 0 c (g .left .len) (run-done key x _ _ (omega arith)) (d ∙ both (ltb k (x + 1)) _ _ (omega arith)) (omega arith)
 
--- the whole search: of no entries, and by the list's layout
+-- the whole search, of no entries
 pub none : (key : ℕ → ℕ) (x n : ℕ) → n ≡ 0 → spot 0 0 ≡ run key x 0 n
 none key x n e = sym (ap (run key x 0) e ∙ run-done key x 0 0 zero-le)
-
-pub by-layout : (list : List ℕ) (l m : Layout) (x : ℕ) {r : Spot} → l ≡ m → r ≡ searchOf list m x → r ≡ searchOf list l x
-by-layout list l m x e q = q ∙ ap (λ (k : Layout). searchOf list k x) (sym e)
 
 -- one of four searches side by side: its entries are no more than wide, and no fewer than narrow, less one
 pub record Lane (key : ℕ → ℕ) (x n : ℕ) (p : Rest) (narrow wide rounds : ℕ) : Type 0 where

@@ -5,8 +5,8 @@ use Prim.Native.Nat.{ℕ, _+_, _%_}
 use mathlib.Core.Path.{ap}
 use native.Mathlib.Omega.{arith}
 use Rattle.raw.specs.declared.Kind.{Kind}
-use Rattle.fill.specs.declared.Entry.{Entry}
-use Rattle.fill.proofs.Turns.{entry-inside, no-entry, an-entry}
+use Rattle.entries.specs.declared.Entry.{Entry}
+use Rattle.entries.proofs.Reading.{entry-inside, no-entry, an-entry}
 use Rattle.fill.proofs.entry_at.Statement.{statement}
 use Rattle.fill.proofs.entry_at.Tie as tie
 

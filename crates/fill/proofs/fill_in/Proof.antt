@@ -5,7 +5,7 @@ use mathlib.Core.Path.{refl, ap, sym, _∙_}
 use Rattle.raw.specs.Raw.{listsTold}
 use Rattle.raw.proofs.Grants.{where-whole, where-refused}
 use Rattle.fill.specs.Fill.{fillIn}
-use Rattle.fill.proofs.Straight.{granted-again}
+use Rattle.entries.proofs.Straight.{granted-again}
 use Rattle.fill.proofs.fill_in.Statement.{statement}
 use Rattle.fill.proofs.fill_in.Tie as tie
 

@@ -4,7 +4,7 @@ use borrow.Author.Needs.{needs}
 use mathlib.Core.Path.{_∙_}
 use native.Mathlib.Omega.{arith}
 use Rattle.raw.specs.declared.Kind.{Kind}
-use Rattle.fill.proofs.Turns.{entry-inside, opcode-inside, end-too-large, regular, no-opcode, compressed}
+use Rattle.entries.proofs.Reading.{entry-inside, opcode-inside, end-too-large, regular, no-opcode, compressed}
 use Rattle.fill.proofs.function_to.Statement.{statement}
 use Rattle.fill.proofs.function_to.Tie as tie
 

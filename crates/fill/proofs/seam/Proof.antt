@@ -1,7 +1,7 @@
 -- `fill::seam` meets its contract: by the index alone.
 -- Assumes nothing.
 use borrow.Author.Tests.{lt-ltb, le-ltb}
-use Rattle.fill.specs.Straight.{seamOf}
+use Rattle.entries.specs.Straight.{seamOf}
 use Rattle.fill.proofs.seam.Statement.{statement}
 use Rattle.fill.proofs.seam.Tie as tie
 

@@ -3,14 +3,17 @@
 use borrow.Author.Needs.{needs}
 use mathlib.Core.Path.{refl, ap, sym, _∙_}
 use Rattle.raw.specs.Raw.{listsTold}
-use Rattle.raw.proofs.Grants.{where-refused}
+use Rattle.raw.proofs.Grants.{parsed, where-whole, where-refused}
 use Rattle.lookup.specs.Lookup.{lookupOn}
-use Rattle.lookup.proofs.One.{after-parse}
 use Rattle.lookup.proofs.lookup.Statement.{statement}
 use Rattle.lookup.proofs.lookup.Tie as tie
 
+lookup-of-requires : tie.Need-lookup-of-requires
+lookup-of-requires c κs = parsed _ _ (sym (c .before .before .before .parse .ensures) ∙ ap listsTold (c .before .lists .given .1))
+
 returns : tie.Need-returns
-returns c = c .lookup-in .ensures ∙ after-parse _ _ (sym (c .before .before .before .before .parse .ensures) ∙ ap listsTold (c .before .before .lists .given .1)) _
+unfolding lookupOn
+returns c = where-whole _ _ _ _ (c .before .before .before .before .parse .ensures) _ _ (c .before .before .lists .given .1) (c .lookup-of .ensures)
 
 returns-2 : tie.Need-returns-2
 unfolding lookupOn
@@ -19,4 +22,4 @@ returns-2 c = where-refused _ _ _ _ (c .before .before .before .parse .ensures) 
 pub lookup-spec : {M : Type 1} → statement M
 lookup-spec =
     tie.close
-    (tie.spec (λ c κs. search needs) (λ c. search needs) (λ c κs. search needs) (λ c. search needs) returns returns-2)
+    (tie.spec (λ c κs. search needs) (λ c. search needs) lookup-of-requires (λ c. search needs) returns returns-2)

@@ -13,25 +13,25 @@ inside-requires c κs = pages-inside _ _ (c .before .pre)
 
 returns : tie.Need-returns
 unfolding pagesOf
-returns c = looks-before _ _ _ (c .before .before .inside .ensures) _ _ (c .before .search .ensures) (c .if1 .taken)
+returns c = looks-before _ _ _ (c .before .before .inside .ensures) _ _ (c .before .search-pages .ensures) (c .if1 .taken)
 
 returns-2 : tie.Need-returns-2
 unfolding pagesOf
-returns-2 c = looks-past _ _ _ (c .before .before .before .inside .ensures) _ _ (c .before .before .search .ensures) (c .before .if1 .left) (c .if2 .taken)
+returns-2 c = looks-past _ _ _ (c .before .before .before .inside .ensures) _ _ (c .before .before .search-pages .ensures) (c .before .if1 .left) (c .if2 .taken)
 
 cast-at-page : tie.Need-cast-at-page
 unfolding pagesOf
-cast-at-page c = omega (arith, within _ _ _ _ _ (c .before .before .search .ensures) (few-pages _ (c .before .before .before .before .before .args .lists) _ (c .before .before .before .inside .ensures)))
+cast-at-page c = omega (arith, within _ _ _ _ _ (c .before .before .search-pages .ensures) (few-pages _ (c .before .before .before .before .before .args .lists) _ (c .before .before .before .inside .ensures)))
 
 at-page-requires : tie.Need-at-page-requires
 unfolding pagesOf
 at-page-requires c κs =
     let h = few-pages _ (c .before .before .before .before .before .args .lists) _ (c .before .before .before .inside .ensures) in
-    (c .before .before .before .inside .ensures, c .before .before .before .before .before .pre, omega (arith, within _ _ _ _ _ (c .before .before .search .ensures) h, c .if2 .left, c .before .if1 .left), omega (arith, few _ _ _ _ _ (c .before .before .search .ensures) h (search needs)))
+    (c .before .before .before .inside .ensures, c .before .before .before .before .before .pre, omega (arith, within _ _ _ _ _ (c .before .before .search-pages .ensures) h, c .if2 .left, c .before .if1 .left), omega (arith, few _ _ _ _ _ (c .before .before .search-pages .ensures) h (search needs)))
 
 returns-3 : tie.Need-returns-3
 unfolding pagesOf
-returns-3 c = looks-in _ _ _ (c .before .before .before .before .inside .ensures) _ _ (c .before .before .before .search .ensures) _ (c .before .before .if1 .left) (c .before .if2 .left) (c .at-page .ensures)
+returns-3 c = looks-in _ _ _ (c .before .before .before .before .inside .ensures) _ _ (c .before .before .before .search-pages .ensures) _ (c .before .before .if1 .left) (c .before .if2 .left) (c .at-page .ensures)
 
 pub lookup-of-spec : {M : Type 1} → statement M
 lookup-of-spec =

@@ -12,23 +12,22 @@ use Rattle.raw.specs.declared.Lists.{Lists}
 use Rattle.raw.specs.declared.Page.{Page}
 use Rattle.raw.specs.Checked.{Checked, good, refused, _>>=_, _>>_, check}
 use Rattle.raw.specs.Raw.{layout}
 use Rattle.entries.specs.declared.Function.{Function}
-use Rattle.entries.specs.Section.{firstOf, offsetOf}
-use Rattle.fill.specs.declared.Source.{Source}
-use Rattle.fill.specs.declared.Entry.{Entry}
+use Rattle.entries.specs.declared.Source.{Source}
+use Rattle.entries.specs.declared.Entry.{Entry}
 
--- where page p has its functions, and where their opcodes are
-abbrev pub sourceOf : List ℕ → Lists → ℕ → Page → Source
-sourceOf s l p pg =
+-- where the page at an offset, before the next one's first address, has its functions, and where their opcodes are
+abbrev pub sourceFrom : Lists → (offset next : ℕ) → Page → Source
+sourceFrom l offset next pg =
     record {
       kind = pg .kind;
       base = pg .base;
-      next = firstOf s l (suc p);
-      first = offsetOf s l p + pg .«functions_offset»;
+      next = next;
+      first = offset + pg .«functions_offset»;
       entries = pg .«functions_len»;
       globals = l .«global_opcodes_len»;
       «globals_end» = l .«global_opcodes_offset» + 4 * l .«global_opcodes_len»;
-      «locals_at» = offsetOf s l p + pg .«local_opcodes_offset»;
+      «locals_at» = offset + pg .«local_opcodes_offset»;
       opcodes = l .«global_opcodes_len» + pg .«local_opcodes_len»;
     }
 

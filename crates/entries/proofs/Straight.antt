@@ -20,13 +20,12 @@ use Rattle.raw.specs.declared.Page.{Page}
 use Rattle.raw.specs.Checked.{Checked, good, refused, _>>_, check}
 use Rattle.raw.specs.Raw.{layout, globalsOf, grantOf, pageOf, localsGranted}
 use Rattle.raw.proofs.Grants as lists
-use Rattle.raw.proofs.Opens.{opened-reads, starts-inside, functions-granted}
+use Rattle.raw.proofs.Opens.{starts-inside, functions-granted}
 use Rattle.entries.specs.Entries.{functionsOf, localsOf, fourOf, isGlobal, opcodePart, startIn, endIn, resolveOf, opcodeIn, functionIn, functionOf}
-use Rattle.entries.specs.Section.{firstOf, offsetOf, pageAt, openedAt, functionAt}
 use Rattle.entries.proofs.Cases.{four-there, four-not, names-global, names-local, no-opcode, an-opcode, end-inside, end-last}
-use Rattle.fill.specs.declared.Source.{Source}
-use Rattle.fill.specs.declared.Entry.{Entry}
-use Rattle.fill.specs.Straight.{sourceOf, Inside, seamOf, entryBy, entryOf, opcodeBy, functionTo, functionFrom}
+use Rattle.entries.specs.declared.Source.{Source}
+use Rattle.entries.specs.declared.Entry.{Entry}
+use Rattle.entries.specs.Straight.{sourceFrom, Inside, seamOf, entryBy, entryOf, opcodeBy, functionTo, functionFrom}
 
 -- a number in a part is the number in the whole, further on
 number-in : (n m : ℕ) (l : List ℕ) (o : ℕ) → o + n ≤ m → numberAt n (take m l) o ≡ numberAt n l o
@@ -40,7 +39,7 @@ word-in s o m h at t =
     there 4 (partOf s o m) at (omega (arith, length-part s o m h)) ∙ number-in 4 m (drop o s) at t ∙ part 4 o s at
     ∙ sym (there 4 s (o + at) (omega arith))
 
-part-of-part : (s : List ℕ) (p o m : ℕ) → partOf (drop p s) o m ≡ partOf s (p + o) m
+pub part-of-part : (s : List ℕ) (p o m : ℕ) → partOf (drop p s) o m ≡ partOf s (p + o) m
 unfolding partOf
 part-of-part s p o m = ap (take m) (drop-drop o p s)
 
@@ -123,20 +122,20 @@ module _ (s : List ℕ) (q : Source) (n i : ℕ) (t : i < n) where
       sym (names s q o m end all hg hl _)
       ∙ ap (λ (x : ℕ). resolveOf (partOf s o (4 * q .globals)) (partOf s (q .«locals_at») (4 * m)) true (x / 16777216)) (sym (word-in s (q .first) (4 * n) h (4 * i) (omega arith)))
 
-module _ (s : List ℕ) (l : Lists) (p : ℕ) (pg : Page) where
+module _ (s : List ℕ) (l : Lists) (offset next : ℕ) (pg : Page) where
   abbrev q : Source
-  q = sourceOf s l p pg
+  q = sourceFrom l offset next pg
 
   abbrev list : List ℕ
-  list = functionsOf (pageAt s l p) pg
+  list = functionsOf (drop offset s) pg
 
   listed-there : list ≡ listed s q (pg .«functions_len») (pg .kind)
-  unfolding functionsOf pageAt
-  listed-there = part-of-part s (offsetOf s l p) (pg .«functions_offset») _
+  unfolding functionsOf
+  listed-there = part-of-part s offset (pg .«functions_offset») _
 
-  locals-there : localsOf (pageAt s l p) pg ≡ partOf s (q .«locals_at») (4 * pg .«local_opcodes_len»)
-  unfolding localsOf pageAt
-  locals-there = part-of-part s (offsetOf s l p) (pg .«local_opcodes_offset») _
+  locals-there : localsOf (drop offset s) pg ≡ partOf s (q .«locals_at») (4 * pg .«local_opcodes_len»)
+  unfolding localsOf
+  locals-there = part-of-part s offset (pg .«local_opcodes_offset») _
 
   module _ (inside : Inside s q) (i : ℕ) where
     here : i < pg .«functions_len» → entryOf s q i ≡ entryBy s q (pg .kind) i
@@ -149,19 +148,19 @@ module _ (s : List ℕ) (l : Lists) (p : ℕ) (pg : Page) where
         ap (λ (e : Entry). e .start) (here t) ∙ starts s q (pg .«functions_len») i t (pg .kind) (inside .entries)
         ∙ ap (λ (f : List ℕ). pg .base + keyOf f (layout (pg .kind)) i) (sym listed-there)
 
-    past : pg .«functions_len» ≤ i → entryOf s q i .start ≡ firstOf s l (suc p)
+    past : pg .«functions_len» ≤ i → entryOf s q i .start ≡ next
     unfolding entryOf
     past t = simp (le-ltb i (pg .«functions_len») t)
 
-  module _ (inside : Inside s q) (granted-there : localsGranted (pageAt s l p) pg ≡ true) (i : ℕ) (t : i < pg .«functions_len») where
-    ends-at : entryOf s q (i + 1) .start ≡ endIn list pg (firstOf s l (suc p)) i
+  module _ (inside : Inside s q) (granted-there : localsGranted (drop offset s) pg ≡ true) (i : ℕ) (t : i < pg .«functions_len») where
+    ends-at : entryOf s q (i + 1) .start ≡ endIn list pg next i
     ends-at = by-place (decLt (i + 1) (pg .«functions_len»))
       where
-        by-place : Dec (i + 1 < pg .«functions_len») → entryOf s q (i + 1) .start ≡ endIn list pg (firstOf s l (suc p)) i
-        by-place (yes u) = starts-at inside (i + 1) u ∙ sym (end-inside list pg (firstOf s l (suc p)) i u)
-        by-place (no u) = past inside (i + 1) (omega arith) ∙ sym (end-last list pg (firstOf s l (suc p)) i (omega arith))
+        by-place : Dec (i + 1 < pg .«functions_len») → entryOf s q (i + 1) .start ≡ endIn list pg next i
+        by-place (yes u) = starts-at inside (i + 1) u ∙ sym (end-inside list pg next i u)
+        by-place (no u) = past inside (i + 1) (omega arith) ∙ sym (end-last list pg next i (omega arith))
 
-    names-at : opcodeBy s q (pg .kind) i (entryOf s q i .word) ≡ opcodeIn (pg .kind) (globalsOf s l) (localsOf (pageAt s l p) pg) true list i
+    names-at : opcodeBy s q (pg .kind) i (entryOf s q i .word) ≡ opcodeIn (pg .kind) (globalsOf s l) (localsOf (drop offset s) pg) true list i
     unfolding globalsOf
     names-at =
         ap (λ (e : Entry). opcodeBy s q (pg .kind) i (e .word)) (here inside i t)
@@ -169,31 +168,22 @@ module _ (s : List ℕ) (l : Lists) (p : ℕ) (pg : Page) where
         ∙ simp (listed-there, locals-there)
 
     -- function i, straight and plain
-    pub straight : functionFrom s q i ≡ functionAt s l p pg i
-    unfolding functionFrom functionTo functionAt functionOf functionIn
+    pub straight : functionFrom s q i ≡ functionOf (drop offset s) pg (globalsOf s l) next i
+    unfolding functionFrom functionTo functionOf functionIn
     straight = simp (starts-at inside i t, ends-at, names-at, granted-there)
 
-  -- the lists were granted and the page was opened, so what is read lies in the section
-  module _ (g : grantOf s l ≡ good l) (o : openedAt s l p ≡ good pg) where
-    read : pageOf s (offsetOf s l p) (firstOf s l p) ≡ good pg
-    unfolding openedAt
-    read = opened-reads s (offsetOf s l p) (firstOf s l p) pg o .0
-
-    pub locals-granted : localsGranted (pageAt s l p) pg ≡ true
-    unfolding openedAt pageAt
-    locals-granted = opened-reads s (offsetOf s l p) (firstOf s l p) pg o .1
-
-    pub lies-inside : Inside s q
-    unfolding localsGranted pageAt
-    lies-inside =
-        let start = starts-inside s (offsetOf s l p) (firstOf s l p) pg read in
-        let size = length-drop (offsetOf s l p) s in
-        record {
-          entries = omega (arith, fits _ _ _ (functions-granted s (offsetOf s l p) (firstOf s l p) pg read));
-          globals = fits _ _ _ (lists.granted s l l g .1);
-          below = omega arith;
-          locals = omega (arith, fits _ _ _ locals-granted);
-        }
+  -- the lists were granted and the page was read with its local opcodes, so what is read lies in the section
+  pub lies-inside : grantOf s l ≡ good l → (first : ℕ) → pageOf s offset first ≡ good pg → localsGranted (drop offset s) pg ≡ true → Inside s q
+  unfolding localsGranted
+  lies-inside g first read there =
+      let start = starts-inside s offset first pg read in
+      let size = length-drop offset s in
+      record {
+        entries = omega (arith, fits _ _ _ (functions-granted s offset first pg read));
+        globals = fits _ _ _ (lists.granted s l l g .1);
+        below = omega arith;
+        locals = omega (arith, fits _ _ _ there);
+      }
 
 -- lists that were granted are granted again
 pub granted-again : (s : List ℕ) (l m : Lists) → grantOf s l ≡ good m → grantOf s m ≡ good m
