@@ -1,3 +1,3 @@
 pub mod Batches
-pub mod Aiming
+pub mod Laning
 pub mod One

@@ -1,22 +1,13 @@
 -- Many addresses in one call: each answer is four numbers, which tell what the lookup of its address tells.
 -- Assumes nothing.
-use Prim.Native.Nat.{ℕ, _+_, _*_, _/_, _≤_, _<_}
-use mathlib.Core.Path.{_≡_}
+use Prim.Native.Nat.{ℕ, _+_, _*_, _/_}
 use mathlib.Core.Bool.{cond}
 use mathlib.Core.List.{List, [], _∷_, _++_}
 use lib.Dec.{leb}
 use lib.ListN.{length, take, drop}
-use Rattle.search.specs.declared.Spot.{Spot}
-use Rattle.search.specs.declared.Layout.{Layout}
-use Rattle.search.specs.Search.{searchOf}
-use Rattle.raw.specs.declared.Lists.{Lists}
-use Rattle.raw.specs.Raw.{globalsOf, pagesOf}
 use Rattle.batch.specs.declared.Numbers.{Numbers}
 use Rattle.batch.specs.declared.Four.{Four}
-use Rattle.batch.specs.declared.Aim.{Aim}
-use Rattle.batch.specs.declared.Aimed.{Aimed}
-use Rattle.lookup.specs.Lookup.{Looked, found, nothing, refusal, fromPages, lookupOn}
-use Rattle.lookup.specs.Searched.{searchedIn}
+use Rattle.lookup.specs.Lookup.{Looked, found, nothing, refusal, lookupOn}
 
 -- start, end and opcode of the function found, then the probes; 1 above them for a function, 2 for a refusal with its number above that
 abbrev pub numbers : ℕ → ℕ → ℕ → ℕ → Numbers
@@ -39,7 +30,7 @@ answersOf look (a ∷ xs) = listed (numbersOf (look a)) ++ answersOf look xs
 unfoldable pub standing : (ℕ → Looked) → List ℕ → List ℕ → ℕ → List ℕ
 standing look xs out k = answersOf look (take k xs) ++ drop (4 * k) out
 
--- xs many xs there are addresses, and room
+-- as many as there are addresses, and room
 unfoldable pub fewerOf : ℕ → ℕ → ℕ
 fewerOf a b = cond (leb a b) a b
 
@@ -61,24 +52,3 @@ putOf out k n = take (4 * k) out ++ listed n ++ drop (4 * k + 4) out
 
 abbrev pub fourOf : (ℕ → Looked) → ℕ → ℕ → ℕ → ℕ → Four
 fourOf look a b c d = record { a = numbersOf (look a); b = numbersOf (look b); c = numbersOf (look c); d = numbersOf (look d) }
-
--- a page that was read for the address where the search of pages ended: the lookup is the search in it
-pub record AimedAt (s : List ℕ) (l : Lists) (spot : Spot) (m : Aim) : Type 0 where
-  pub looks : (pc : ℕ) → fromPages s l pc spot ≡ searchedIn (globalsOf s l) (drop (m .offset) s) (m .pg) (m .next) pc (m .probes)
-  pub starts : m .offset ≤ length s
-  pub small : m .pg .«functions_len» < 65536
-  pub few : m .probes ≤ 32
-
-abbrev pub Aims : List ℕ → Lists → Spot → Aimed → Type 0
-Aims s l spot (Aimed.At m) = AimedAt s l spot m
-Aims s l spot Aimed.Elsewhere = Unit {0}
-
--- four addresses, each with its page
-abbrev pub aimed : List ℕ → Lists → ℕ → Aim → Type 0
-aimed s l pc m = AimedAt s l (searchOf (pagesOf s l) Layout.Pages pc) m
-
-pub record Aimed4 (s : List ℕ) (l : Lists) (a : ℕ) (ma : Aim) (b : ℕ) (mb : Aim) (c : ℕ) (mc : Aim) (d : ℕ) (md : Aim) : Type 0 where
-  pub first : aimed s l a ma
-  pub second : aimed s l b mb
-  pub third : aimed s l c mc
-  pub fourth : aimed s l d md

@@ -5,23 +5,21 @@ ghost use mathlib.Core.Bool.{true};
 ghost use mathlib.Core.List.{List};
 ghost use Prim.Native.Nat.{ℕ};
 ghost use lib.ListN.{length, drop};
-ghost use Rattle.search.specs.Search.{sizeOf, searchOf};
+ghost use Rattle.reader.specs.Reader.{wordAt, partOf};
 ghost use Rattle.raw.specs.declared.Kind.{Kind};
 ghost use Rattle.raw.specs.Checked.{good};
-ghost use Rattle.raw.specs.Raw.{parseOf, grantOf, globalsOf, pagesOf, layout, listsTold};
-ghost use Rattle.entries.specs.Entries.{functionsOf, functionTold};
-ghost use Rattle.lookup.specs.Lookup.{telling, lookupIn, lookupOn, lookedTold, probesOf};
-ghost use Rattle.lookup.specs.Searched.{foundIn, searchedIn};
-ghost use Rattle.batch.specs.Batch.{numbersOf, fourOf, standing, fewerOf, batch, batchOf, putOf, AimedAt, Aims, Aimed4};
-use entries::Answer;
+ghost use Rattle.raw.specs.Raw.{parseOf, grantOf, pagesOf};
+ghost use Rattle.entries.specs.Straight.{Inside, entryOf, seamOf};
+ghost use Rattle.lookup.specs.Lookup.{refusal, lookupIn, lookupOn, lookedTold, probesOf};
+ghost use Rattle.batch.specs.Batch.{numbersOf, fourOf, standing, fewerOf, batch, batchOf, putOf};
+ghost use Rattle.batch.specs.Lanes.{LaneOf, Lanes, laned, tellFrom};
+use entries::Source;
 use lookup::Found;
-use raw::Error;
 use raw::Kind;
 use raw::Lists;
 use raw::Opened;
 use raw::Page;
 use raw::Parsed;
-use search::Layout;
 use search::Spot;
 
 // An answer: start, end and opcode of the function; then the probes, with 1 above them for a function, 2 and the number for a refusal.
@@ -39,17 +37,10 @@ struct Four {
     pub d: Numbers,
 }
 
-// A page that was read for an address.
-struct Aim {
-    pub pg: Page,
-    pub offset: u32,
-    pub next: u32,
+// A compressed page that was read for an address: what its functions are read from. It has no entries where there is no such page.
+struct Lane {
+    pub source: Source,
     pub probes: u32,
-}
-
-enum Aimed {
-    At(Aim),
-    Elsewhere,
 }
 
 fn flat(found: Found) -> Numbers
@@ -96,111 +87,159 @@ fn put(out: &mut [u32], k: usize, n: Numbers)
     out[at + 3] = n.told;
 }
 
-// The page where the search of pages ended, if there is one that can be read.
-fn aim_at(s: &[u8], lists: Lists, pages: &[u8], spot: Spot) -> Aimed
-    requires { ⌜ (now pages ≡ pagesOf (now s) lists) × (spot .at ≤ lists .«pages_len») × (spot .probes ≤ 32) ⌝ }
-    ensures { λ r. ⌜ Aims (now (s .entry)) lists spot r ⌝ }
+// Bytes that are there, with no test of it.
+fn word_at(s: &[u8], at: usize) -> u32
+    requires { ⌜ at + 4 ≤ length (now s) ⌝ }
+    ensures { λ r. ⌜ r ≡ wordAt 4 (now (s .entry)) at ⌝ }
+{
+    reader::from_le_bytes(s[at], s[at + 1], s[at + 2], s[at + 3])
+}
+
+fn nowhere() -> Lane
+    ensures { λ r. ⌜ r .source .entries ≡ 0 ⌝ }
+{
+    Lane {
+        source: Source {
+            kind: Kind::Compressed,
+            base: 0,
+            next: 0,
+            first: 0,
+            entries: 0,
+            globals: 0,
+            globals_end: 0,
+            locals_at: 0,
+            opcodes: 0,
+        },
+        probes: 0,
+    }
+}
+
+// The page where the search of pages ended, if it is a compressed one with all that belongs to it.
+fn lane_at(s: &[u8], lists: Lists, pages: &[u8], spot: Spot) -> Lane
+    requires { ⌜ (now pages ≡ pagesOf (now s) lists) × (grantOf (now s) lists ≡ good lists) × (spot .at ≤ lists .«pages_len») × (spot .probes ≤ 32) ⌝ }
+    ensures { λ r. ⌜ Lanes (now (s .entry)) lists spot r ⌝ }
 {
     let n = lists.pages_len;
     let at = spot.at;
     if at == 0 {
-        return Aimed::Elsewhere;
+        return nowhere();
     }
     if at == n as usize {
-        return Aimed::Elsewhere;
+        return nowhere();
     }
-    let p = (at - 1) as u32;
-    let first = raw::first_address(pages, p);
-    let offset = raw::page_offset(pages, p);
-    let next = raw::first_address(pages, p + 1);
-    match raw::read_page(s, offset, first) {
-        Opened::Page(pg) => Aimed::At(Aim {
-            pg,
-            offset,
-            next,
-            probes: spot.probes,
-        }),
-        Opened::Refused(_) => Aimed::Elsewhere,
+    let p = at - 1;
+    let first = word_at(pages, 12 * p);
+    let offset = word_at(pages, 12 * p + 4);
+    let next = word_at(pages, 12 * p + 12);
+    let Opened::Page(pg) = raw::read_page(s, offset, first) else {
+        return nowhere();
+    };
+    lane_of(s, lists, offset, next, pg, spot.probes)
+}
+
+fn lane_of(s: &[u8], lists: Lists, offset: u32, next: u32, pg: Page, probes: u32) -> Lane
+    requires { ⌜ offset ≤ length (now s) ⌝ }
+    ensures { λ r. ⌜ (0 < r .source .entries → LaneOf (now (s .entry)) lists offset next pg probes r) ⌝ }
+{
+    let kind = pg.kind;
+    let Kind::Compressed = kind else {
+        return nowhere();
+    };
+    let from = offset as usize;
+    if !raw::has_local_opcodes(&s[from..], pg) {
+        return nowhere();
+    }
+    Lane {
+        source: entries::source_of(lists, offset, next, pg),
+        probes,
     }
 }
 
-fn alike(a: Kind, b: Kind) -> bool
-    ensures { λ r. ⌜ (r ≡ true → b ≡ a) ⌝ }
+fn are_there(a: Lane, b: Lane, c: Lane, d: Lane) -> bool
+    ensures { λ r. ⌜ (r ≡ true → (0 < a .source .entries) × (0 < b .source .entries) × (0 < c .source .entries) × (0 < d .source .entries)) ⌝ }
 {
-    match a {
-        Kind::Regular => is_regular(b),
-        Kind::Compressed => is_compressed(b),
-    }
-}
-
-fn is_regular(kind: Kind) -> bool
-    ensures { λ r. ⌜ (r ≡ true → kind ≡ Kind.Regular) ⌝ }
-{
-    match kind {
-        Kind::Regular => true,
-        Kind::Compressed => false,
-    }
-}
-
-fn is_compressed(kind: Kind) -> bool
-    ensures { λ r. ⌜ (r ≡ true → kind ≡ Kind.Compressed) ⌝ }
-{
-    match kind {
-        Kind::Regular => false,
-        Kind::Compressed => true,
-    }
-}
-
-fn all_alike(a: Page, b: Page, c: Page, d: Page) -> bool
-    ensures { λ r. ⌜ (r ≡ true → (b .kind ≡ a .kind) × (c .kind ≡ a .kind) × (d .kind ≡ a .kind)) ⌝ }
-{
-    let kind = a.kind;
-    let kb = b.kind;
-    let kc = c.kind;
-    let kd = d.kind;
-    if !alike(kind, kb) {
+    if a.source.entries == 0 {
         return false;
     }
-    if !alike(kind, kc) {
+    if b.source.entries == 0 {
         return false;
     }
-    alike(kind, kd)
+    if c.source.entries == 0 {
+        return false;
+    }
+    if d.source.entries == 0 {
+        return false;
+    }
+    true
 }
 
-fn found_of(answer: Answer, probes: u32) -> Found
-    ensures { λ r. ⌜ lookedTold r ≡ telling probes (functionTold answer) ⌝ }
+fn refused(number: u32, probes: u32) -> Numbers
+    requires { ⌜ (number ≤ 14) × (probes ≤ 64) ⌝ }
+    ensures { λ r. ⌜ r ≡ numbersOf (refusal number probes) ⌝ }
 {
-    match answer {
-        Answer::Function(function) => Found::Function { function, probes },
-        Answer::Refused(error) => Found::Refused { error, probes },
+    Numbers {
+        start: 0,
+        end: 0,
+        opcode: 0,
+        told: probes + 131072 + 16777216 * number,
     }
 }
 
-// The answer where the search in a page ended.
-fn in_page<'a>(globals: &'a [u8], page: &'a [u8], m: Aim, functions: &[u8], spot: Spot) -> Numbers
-    requires { ⌜ (now functions ≡ functionsOf (now page) (m .pg)) × (m .probes ≤ 32) × (spot .at ≤ m .pg .«functions_len») × (spot .probes ≤ 32) ⌝ }
-    ensures { λ r. ⌜ r ≡ numbersOf (foundIn (now (globals .entry)) (now (page .entry)) (m .pg) (m .next) (m .probes) spot) ⌝ }
+// Where function i starts; past the last, the next page's first address.
+fn start_at(s: &[u8], q: Source, i: usize) -> u64
+    requires { ⌜ Inside (now s) q × (q .kind ≡ Kind.Compressed) ⌝ }
+    ensures { λ r. ⌜ r ≡ entryOf (now (s .entry)) q i .start ⌝ }
 {
-    let pg = m.pg;
-    let next = m.next;
+    let first = q.first;
+    let base = q.base as u64;
+    if q.entries as usize <= i {
+        return q.next as u64;
+    }
+    base + (word_at(s, first + 4 * i) % 16777216) as u64
+}
+
+// One conditional move chooses the palette, and no jump that nobody could predict.
+fn seam(q: Source, index: usize) -> usize
+    ensures { λ r. ⌜ r ≡ seamOf q index ⌝ }
+{
+    if index < q.globals {
+        q.globals_end
+    } else {
+        q.locals_at
+    }
+}
+
+// The answer where the search in the page ended.
+fn answer(s: &[u8], m: Lane, spot: Spot) -> Numbers
+    requires { ⌜ Inside (now s) (m .source) × (m .source .kind ≡ Kind.Compressed) × (m .probes ≤ 32) × (spot .at ≤ m .source .entries) × (spot .probes ≤ 32) ⌝ }
+    ensures { λ r. ⌜ r ≡ numbersOf (tellFrom (now (s .entry)) m spot) ⌝ }
+{
+    let q = m.source;
     let at = spot.at;
     let probes = m.probes + spot.probes;
     if at == 0 {
-        return flat(Found::Refused {
-            error: Error::InvalidPageEntryFirstAddress,
-            probes,
-        });
+        return refused(12, probes);
     }
-    let answer = entries::function_in(
-        globals,
-        entries::local_opcodes(page, pg),
-        raw::has_local_opcodes(page, pg),
-        functions,
-        pg,
-        next,
-        (at - 1) as u32,
-    );
-    flat(found_of(answer, probes))
+    let word = word_at(s, q.first + 4 * (at - 1));
+    let start = q.base as u64 + (word % 16777216) as u64;
+    let end = start_at(s, q, at);
+    if start >= 4294967296 {
+        return refused(13, probes);
+    }
+    if end >= 4294967296 {
+        return refused(13, probes);
+    }
+    let index = (word / 16777216) as usize;
+    if q.opcodes <= index {
+        return refused(14, probes);
+    }
+    let place = seam(q, index) + 4 * index - 4 * q.globals;
+    Numbers {
+        start: start as u32,
+        end: end as u32,
+        opcode: word_at(s, place),
+        told: probes + 65536,
+    }
 }
 
 fn singly(s: &[u8], lists: Lists, a: u32, b: u32, c: u32, d: u32) -> Four
@@ -218,119 +257,71 @@ fn singly(s: &[u8], lists: Lists, a: u32, b: u32, c: u32, d: u32) -> Four
     }
 }
 
-// Four searches side by side, in pages of one kind.
+fn functions_of(s: &[u8], m: Lane) -> &[u8]
+    requires { ⌜ m .source .first + 4 * m .source .entries ≤ length (now s) ⌝ }
+    ensures { λ r. ⌜ now r ≡ partOf (now (s .entry)) (m .source .first) (4 * m .source .entries) ⌝ }
+{
+    let at = m.source.first;
+    let end = at + 4 * m.source.entries as usize;
+    &s[at..end]
+}
+
+// Four searches side by side, each in its page.
 fn in_pages(
     s: &[u8],
     lists: Lists,
     a: u32,
-    ma: Aim,
+    ma: Lane,
     b: u32,
-    mb: Aim,
+    mb: Lane,
     c: u32,
-    mc: Aim,
+    mc: Lane,
     d: u32,
-    md: Aim,
+    md: Lane,
 ) -> Four
-    requires { ⌜ (grantOf (now s) lists ≡ good lists) × Aimed4 (now s) lists a ma b mb c mc d md × (mb .pg .kind ≡ ma .pg .kind) × (mc .pg .kind ≡ ma .pg .kind) × (md .pg .kind ≡ ma .pg .kind) ⌝ }
+    requires { ⌜ (grantOf (now s) lists ≡ good lists) × laned (now s) lists a ma × laned (now s) lists b mb × laned (now s) lists c mc × laned (now s) lists d md ⌝ }
     ensures { λ r. ⌜ r ≡ fourOf (lookupIn (now (s .entry)) lists) a b c d ⌝ }
 {
-    let opcodes = raw::global_opcodes(s, lists);
-    let ga = ma.pg;
-    let gb = mb.pg;
-    let gc = mc.pg;
-    let gd = md.pg;
-    let oa = ma.offset as usize;
-    let ob = mb.offset as usize;
-    let oc = mc.offset as usize;
-    let od = md.offset as usize;
-    let pa = &s[oa..];
-    let pb = &s[ob..];
-    let pc = &s[oc..];
-    let pd = &s[od..];
-    let fa = entries::functions(pa, ga);
-    let fb = entries::functions(pb, gb);
-    let fc = entries::functions(pc, gc);
-    let fd = entries::functions(pd, gd);
-    let kind = ga.kind;
-    let q = search::search_four(
-        entries::layout_of(kind),
-        fa,
-        above(a, ga.base),
-        fb,
-        above(b, gb.base),
-        fc,
-        above(c, gc.base),
-        fd,
-        above(d, gd.base),
+    let q = search::four_compressed(
+        functions_of(s, ma),
+        above(a, ma.source.base),
+        functions_of(s, mb),
+        above(b, mb.source.base),
+        functions_of(s, mc),
+        above(c, mc.source.base),
+        functions_of(s, md),
+        above(d, md.source.base),
     );
     let qa = q.a;
     let qb = q.b;
     let qc = q.c;
     let qd = q.d;
-    let na = in_page(opcodes, pa, ma, fa, qa);
-    let nb = in_page(opcodes, pb, mb, fb, qb);
-    let nc = in_page(opcodes, pc, mc, fc, qc);
-    let nd = in_page(opcodes, pd, md, fd, qd);
     Four {
-        a: na,
-        b: nb,
-        c: nc,
-        d: nd,
+        a: answer(s, ma, qa),
+        b: answer(s, mb, qb),
+        c: answer(s, mc, qc),
+        d: answer(s, md, qd),
     }
 }
 
 // Side by side where there are four such pages, else one after the other.
-fn side_by_side(
-    s: &[u8],
-    lists: Lists,
-    a: u32,
-    at_a: Aimed,
-    b: u32,
-    at_b: Aimed,
-    c: u32,
-    at_c: Aimed,
-    d: u32,
-    at_d: Aimed,
-) -> Four
-    requires { ⌜ (grantOf (now s) lists ≡ good lists) × Aims (now s) lists (searchOf (pagesOf (now s) lists) Layout.Pages a) «at_a» × Aims (now s) lists (searchOf (pagesOf (now s) lists) Layout.Pages b) «at_b» × Aims (now s) lists (searchOf (pagesOf (now s) lists) Layout.Pages c) «at_c» × Aims (now s) lists (searchOf (pagesOf (now s) lists) Layout.Pages d) «at_d» ⌝ }
-    ensures { λ r. ⌜ r ≡ fourOf (lookupIn (now (s .entry)) lists) a b c d ⌝ }
-{
-    let Aimed::At(ma) = at_a else {
-        return singly(s, lists, a, b, c, d);
-    };
-    let Aimed::At(mb) = at_b else {
-        return singly(s, lists, a, b, c, d);
-    };
-    let Aimed::At(mc) = at_c else {
-        return singly(s, lists, a, b, c, d);
-    };
-    let Aimed::At(md) = at_d else {
-        return singly(s, lists, a, b, c, d);
-    };
-    let ga = ma.pg;
-    let gb = mb.pg;
-    let gc = mc.pg;
-    let gd = md.pg;
-    if !all_alike(ga, gb, gc, gd) {
-        return singly(s, lists, a, b, c, d);
-    }
-    in_pages(s, lists, a, ma, b, mb, c, mc, d, md)
-}
-
 fn group(s: &[u8], lists: Lists, pages: &[u8], a: u32, b: u32, c: u32, d: u32) -> Four
     requires { ⌜ (now pages ≡ pagesOf (now s) lists) × (grantOf (now s) lists ≡ good lists) × (lists .«pages_len» < 4294967296) ⌝ }
     ensures { λ r. ⌜ r ≡ fourOf (lookupIn (now (s .entry)) lists) a b c d ⌝ }
 {
-    let p = search::search_four(Layout::Pages, pages, a, pages, b, pages, c, pages, d);
+    let p = search::four_pages(pages, a, b, c, d);
     let pa = p.a;
     let pb = p.b;
     let pc = p.c;
     let pd = p.d;
-    let ma = aim_at(s, lists, pages, pa);
-    let mb = aim_at(s, lists, pages, pb);
-    let mc = aim_at(s, lists, pages, pc);
-    let md = aim_at(s, lists, pages, pd);
-    side_by_side(s, lists, a, ma, b, mb, c, mc, d, md)
+    let ma = lane_at(s, lists, pages, pa);
+    let mb = lane_at(s, lists, pages, pb);
+    let mc = lane_at(s, lists, pages, pc);
+    let md = lane_at(s, lists, pages, pd);
+    if !are_there(ma, mb, mc, md) {
+        return singly(s, lists, a, b, c, d);
+    }
+    in_pages(s, lists, a, ma, b, mb, c, mc, d, md)
 }
 
 // The answers four by four, as long as there are four; how many they are.

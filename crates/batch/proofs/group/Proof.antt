@@ -1,31 +1,27 @@
 -- `batch::group` meets its contract: the search of pages side by side, then what the pages give.
 -- Assumes nothing.
-use Rattle.batch.proofs.Aiming.{by-spot}
-use Rattle.lookup.proofs.Cases.{within, few, few-pages}
-use Rattle.search.specs.declared.Layout.{Layout}
-use Rattle.search.specs.declared.Spots.{Spots}
-use native.Mathlib.Omega.{arith}
-use mathlib.Core.Path.{ap}
 use borrow.Author.Needs.{needs}
+use borrow.Author.Tests.{not-false}
+use Rattle.search.specs.declared.Layout.{Layout}
+use Rattle.lookup.proofs.Cases.{within, few, few-pages}
+use Rattle.batch.proofs.Laning.{apart, by-spot}
 use Rattle.batch.proofs.group.Statement.{statement}
 use Rattle.batch.proofs.group.Tie as tie
 
-aim-at-requires : tie.Need-aim-at-requires
-aim-at-requires c κs = (c .before .before .before .before .before .before .before .pre .0, within _ Layout.Pages (c .before .before .before .before .before .before .before .args .a) _ _ (ap (λ (q : Spots). q .a) (c .before .before .before .before .search-four .ensures)) (few-pages _ (c .before .before .before .before .before .before .before .args .lists) _ (c .before .before .before .before .before .before .before .pre .0)), few _ Layout.Pages (c .before .before .before .before .before .before .before .args .a) _ _ (ap (λ (q : Spots). q .a) (c .before .before .before .before .search-four .ensures)) (few-pages _ (c .before .before .before .before .before .before .before .args .lists) _ (c .before .before .before .before .before .before .before .pre .0)) (c .before .before .before .before .before .before .before .pre .2))
+lane-at-requires : tie.Need-lane-at-requires
+lane-at-requires c κs = let p = c .before .before .before .before .before .before .before .pre in let n = few-pages _ (c .before .before .before .before .before .before .before .args .lists) _ (p .0) in (p .0, p .1, within _ Layout.Pages (c .before .before .before .before .before .before .before .args .a) _ _ (apart (c .before .before .before .before .four-pages .ensures) .0) n, few _ Layout.Pages (c .before .before .before .before .before .before .before .args .a) _ _ (apart (c .before .before .before .before .four-pages .ensures) .0) n (p .2))
 
-aim-at-requires-2 : tie.Need-aim-at-requires-2
-aim-at-requires-2 c κs = (c .before .before .before .before .before .before .before .before .pre .0, within _ Layout.Pages (c .before .before .before .before .before .before .before .before .args .b) _ _ (ap (λ (q : Spots). q .b) (c .before .before .before .before .before .search-four .ensures)) (few-pages _ (c .before .before .before .before .before .before .before .before .args .lists) _ (c .before .before .before .before .before .before .before .before .pre .0)), few _ Layout.Pages (c .before .before .before .before .before .before .before .before .args .b) _ _ (ap (λ (q : Spots). q .b) (c .before .before .before .before .before .search-four .ensures)) (few-pages _ (c .before .before .before .before .before .before .before .before .args .lists) _ (c .before .before .before .before .before .before .before .before .pre .0)) (c .before .before .before .before .before .before .before .before .pre .2))
+lane-at-requires-2 : tie.Need-lane-at-requires-2
+lane-at-requires-2 c κs = let p = c .before .before .before .before .before .before .before .before .pre in let n = few-pages _ (c .before .before .before .before .before .before .before .before .args .lists) _ (p .0) in (p .0, p .1, within _ Layout.Pages (c .before .before .before .before .before .before .before .before .args .b) _ _ (apart (c .before .before .before .before .before .four-pages .ensures) .1) n, few _ Layout.Pages (c .before .before .before .before .before .before .before .before .args .b) _ _ (apart (c .before .before .before .before .before .four-pages .ensures) .1) n (p .2))
 
-aim-at-requires-3 : tie.Need-aim-at-requires-3
-aim-at-requires-3 c κs = (c .before .before .before .before .before .before .before .before .before .pre .0, within _ Layout.Pages (c .before .before .before .before .before .before .before .before .before .args .c) _ _ (ap (λ (q : Spots). q .c) (c .before .before .before .before .before .before .search-four .ensures)) (few-pages _ (c .before .before .before .before .before .before .before .before .before .args .lists) _ (c .before .before .before .before .before .before .before .before .before .pre .0)), few _ Layout.Pages (c .before .before .before .before .before .before .before .before .before .args .c) _ _ (ap (λ (q : Spots). q .c) (c .before .before .before .before .before .before .search-four .ensures)) (few-pages _ (c .before .before .before .before .before .before .before .before .before .args .lists) _ (c .before .before .before .before .before .before .before .before .before .pre .0)) (c .before .before .before .before .before .before .before .before .before .pre .2))
+lane-at-requires-3 : tie.Need-lane-at-requires-3
+lane-at-requires-3 c κs = let p = c .before .before .before .before .before .before .before .before .before .pre in let n = few-pages _ (c .before .before .before .before .before .before .before .before .before .args .lists) _ (p .0) in (p .0, p .1, within _ Layout.Pages (c .before .before .before .before .before .before .before .before .before .args .c) _ _ (apart (c .before .before .before .before .before .before .four-pages .ensures) .2) n, few _ Layout.Pages (c .before .before .before .before .before .before .before .before .before .args .c) _ _ (apart (c .before .before .before .before .before .before .four-pages .ensures) .2) n (p .2))
 
-aim-at-requires-4 : tie.Need-aim-at-requires-4
-aim-at-requires-4 c κs = (c .before .before .before .before .before .before .before .before .before .before .pre .0, within _ Layout.Pages (c .before .before .before .before .before .before .before .before .before .before .args .d) _ _ (ap (λ (q : Spots). q .d) (c .before .before .before .before .before .before .before .search-four .ensures)) (few-pages _ (c .before .before .before .before .before .before .before .before .before .before .args .lists) _ (c .before .before .before .before .before .before .before .before .before .before .pre .0)), few _ Layout.Pages (c .before .before .before .before .before .before .before .before .before .before .args .d) _ _ (ap (λ (q : Spots). q .d) (c .before .before .before .before .before .before .before .search-four .ensures)) (few-pages _ (c .before .before .before .before .before .before .before .before .before .before .args .lists) _ (c .before .before .before .before .before .before .before .before .before .before .pre .0)) (c .before .before .before .before .before .before .before .before .before .before .pre .2))
+lane-at-requires-4 : tie.Need-lane-at-requires-4
+lane-at-requires-4 c κs = let p = c .before .before .before .before .before .before .before .before .before .before .pre in let n = few-pages _ (c .before .before .before .before .before .before .before .before .before .before .args .lists) _ (p .0) in (p .0, p .1, within _ Layout.Pages (c .before .before .before .before .before .before .before .before .before .before .args .d) _ _ (apart (c .before .before .before .before .before .before .before .four-pages .ensures) .3) n, few _ Layout.Pages (c .before .before .before .before .before .before .before .before .before .before .args .d) _ _ (apart (c .before .before .before .before .before .before .before .four-pages .ensures) .3) n (p .2))
 
-side-by-side-requires : tie.Need-side-by-side-requires
-side-by-side-requires c κs = (c .before .before .before .before .before .before .before .before .before .before .before .pre .1, by-spot _ _ _ (c .before .before .before .before .before .before .before .before .before .before .before .pre .0) (c .before .before .before .before .before .before .before .before .before .before .before .args .a) _ (ap (λ (q : Spots). q .a) (c .before .before .before .before .before .before .before .before .search-four .ensures)) (c .before .before .before .aim-at .result) (c .before .before .before .aim-at .ensures), by-spot _ _ _ (c .before .before .before .before .before .before .before .before .before .before .before .pre .0) (c .before .before .before .before .before .before .before .before .before .before .before .args .b) _ (ap (λ (q : Spots). q .b) (c .before .before .before .before .before .before .before .before .search-four .ensures)) (c .before .before .aim-at2 .result) (c .before .before .aim-at2 .ensures), by-spot _ _ _ (c .before .before .before .before .before .before .before .before .before .before .before .pre .0) (c .before .before .before .before .before .before .before .before .before .before .before .args .c) _ (ap (λ (q : Spots). q .c) (c .before .before .before .before .before .before .before .before .search-four .ensures)) (c .before .aim-at3 .result) (c .before .aim-at3 .ensures), by-spot _ _ _ (c .before .before .before .before .before .before .before .before .before .before .before .pre .0) (c .before .before .before .before .before .before .before .before .before .before .before .args .d) _ (ap (λ (q : Spots). q .d) (c .before .before .before .before .before .before .before .before .search-four .ensures)) (c .aim-at4 .result) (c .aim-at4 .ensures))
+in-pages-requires : tie.Need-in-pages-requires
+in-pages-requires c κs = let p = c .before .before .before .before .before .before .before .before .before .before .before .before .before .pre in let t = c .before .are-there .ensures (not-false _ (c .if1 .left)) in (p .1, by-spot _ _ _ (p .0) (c .before .before .before .before .before .before .before .before .before .before .before .before .before .args .a) _ (apart (c .before .before .before .before .before .before .before .before .before .before .four-pages .ensures) .0) _ (c .before .before .before .before .before .lane-at .ensures) (t .0), by-spot _ _ _ (p .0) (c .before .before .before .before .before .before .before .before .before .before .before .before .before .args .b) _ (apart (c .before .before .before .before .before .before .before .before .before .before .four-pages .ensures) .1) _ (c .before .before .before .before .lane-at2 .ensures) (t .1), by-spot _ _ _ (p .0) (c .before .before .before .before .before .before .before .before .before .before .before .before .before .args .c) _ (apart (c .before .before .before .before .before .before .before .before .before .before .four-pages .ensures) .2) _ (c .before .before .before .lane-at3 .ensures) (t .2), by-spot _ _ _ (p .0) (c .before .before .before .before .before .before .before .before .before .before .before .before .before .args .d) _ (apart (c .before .before .before .before .before .before .before .before .before .before .four-pages .ensures) .3) _ (c .before .before .lane-at4 .ensures) (t .3))
 
 pub group-spec : {M : Type 1} → statement M
-group-spec =
-    tie.close
-    (tie.spec (λ c κs. search needs) aim-at-requires aim-at-requires-2 aim-at-requires-3 aim-at-requires-4 side-by-side-requires (λ c. search needs))
+group-spec = tie.close (tie.spec (λ c κs. search needs) lane-at-requires lane-at-requires-2 lane-at-requires-3 lane-at-requires-4 (λ c κs. search needs) (λ c κs. search needs) (λ c. search needs) in-pages-requires (λ c. search needs))

@@ -1,6 +1,6 @@
 -- `batch::singly` meets its contract: four lookups.
 -- Assumes nothing.
-use Rattle.batch.proofs.Aiming.{all-four}
+use Rattle.batch.proofs.Laning.{all-four}
 use Rattle.lookup.proofs.Probes.{few-in}
 use Rattle.batch.specs.Batch.{numbersOf}
 use Rattle.lookup.specs.Lookup.{lookupIn, probesOf}

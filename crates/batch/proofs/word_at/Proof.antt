@@ -1,0 +1,14 @@
+-- `batch::word_at` meets its contract: four bytes that are there make the number there.
+-- Assumes nothing.
+use borrow.Author.Needs.{needs}
+use mathlib.Core.Path.{_∙_}
+use denote.Ref.{now}
+use Rattle.search.proofs.Turns.{four-bytes}
+use Rattle.batch.proofs.word_at.Statement.{statement}
+use Rattle.batch.proofs.word_at.Tie as tie
+
+returns : tie.Need-returns
+returns c = let a = c .before .before .before .before .before .before in c .from-le-bytes .ensures ∙ four-bytes (now (a .args .s)) (a .args .at) (a .pre)
+
+pub word-at-spec : {M : Type 1} → statement M
+word-at-spec = tie.close (tie.spec (λ c. search needs) (λ c. search needs) (λ c. search needs) (λ c. search needs) (λ c. search needs) (λ c. search needs) (λ c. search needs) (λ c κs. search needs) returns)

@@ -1,0 +1,49 @@
+-- What the helpers promise: a page that was read for an address, and the answer where the search in it ended.
+-- Assumes nothing.
+use Prim.Native.Nat.{ℕ, _+_, _-_, _≤_, _<_}
+use mathlib.Core.Path.{_≡_}
+use mathlib.Core.Bool.{true, cond}
+use mathlib.Core.List.{List}
+use lib.Dec.{eqb}
+use lib.ListN.{drop}
+use Rattle.search.specs.declared.Spot.{Spot}
+use Rattle.search.specs.declared.Layout.{Layout}
+use Rattle.search.specs.Search.{searchOf}
+use Rattle.raw.specs.declared.Kind.{Kind}
+use Rattle.raw.specs.declared.Lists.{Lists}
+use Rattle.raw.specs.declared.Page.{Page}
+use Rattle.raw.specs.Raw.{globalsOf, pagesOf, localsGranted}
+use Rattle.entries.specs.Straight.{sourceFrom, Inside, functionFrom}
+use Rattle.lookup.specs.Lookup.{Looked, refusal, telling, fromPages}
+use Rattle.lookup.specs.Searched.{searchedIn}
+use Rattle.batch.specs.declared.Lane.{Lane}
+
+-- a compressed page, whose local opcodes lie in it, with the probes so far
+pub record LaneOf (s : List ℕ) (l : Lists) (offset next : ℕ) (page : Page) (probes : ℕ) (m : Lane) : Type 0 where
+  pub from : m .source ≡ sourceFrom l offset next page
+  pub kind : page .kind ≡ Kind.Compressed
+  pub there : localsGranted (drop offset s) page ≡ true
+  pub probed : m .probes ≡ probes
+
+-- the page where the search of pages ended: the lookup is the search in it
+pub record Laned (s : List ℕ) (l : Lists) (spot : Spot) (m : Lane) : Type 0 where
+  pub offset : ℕ
+  pub next : ℕ
+  pub page : Page
+  pub lane : LaneOf s l offset next page (spot .probes) m
+  pub looks : (pc : ℕ) → fromPages s l pc spot ≡ searchedIn (globalsOf s l) (drop offset s) page next pc (spot .probes)
+  pub inside : Inside s (m .source)
+  pub small : page .«functions_len» < 65536
+  pub few : spot .probes ≤ 32
+
+abbrev pub Lanes : List ℕ → Lists → Spot → Lane → Type 0
+Lanes s l spot m = 0 < m .source .entries → Laned s l spot m
+
+-- an address with its page
+abbrev pub laned : List ℕ → Lists → ℕ → Lane → Type 0
+laned s l pc m = Laned s l (searchOf (pagesOf s l) Layout.Pages pc) m
+
+-- the function before the place where the search in the page ended
+unfoldable pub tellFrom : List ℕ → Lane → Spot → Looked
+tellFrom s m spot =
+    cond (eqb (spot .at) 0) (refusal 12 (m .probes + spot .probes)) (telling (m .probes + spot .probes) (functionFrom s (m .source) (spot .at - 1)))
