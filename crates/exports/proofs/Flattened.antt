@@ -8,11 +8,9 @@ use Rattle.permutation.specs.Permutation as permutation
 use Rattle.permutation.specs.declared.Decoded.{Decoded}
 use Rattle.permutation.specs.declared.Decoded.the-variants.{Accepted, Refused}
 use Rattle.permutation.specs.declared.Encoded.{Encoded}
-use Rattle.opcodes.specs.WordsX86 as x86
-use Rattle.opcodes.specs.declared.«x86_64».«OpcodeX86_64».{«OpcodeX86_64»}
 use Rattle.exports.specs.declared.permutations.PermutationAnswer.{PermutationAnswer}
 use Rattle.exports.specs.declared.permutations.EncodingAnswer.{EncodingAnswer}
-use Rattle.exports.specs.Flat.{permutationAnswer, encodingAnswer, x86Word, x86Answer, number}
+use Rattle.exports.specs.Flat.{permutationAnswer, encodingAnswer, number}
 
 -- a value that is known, through a definition: one step for every answer below
 pub known : {A B C : Type 0} (flat : B → C) (told : A → B) {x y : A} {t : B} → told x ≡ t → x ≡ y → flat (told y) ≡ flat t
@@ -42,10 +40,6 @@ pub encoding-flat : (e k : Encoded) (n : ℕ) (t : permutation.Written) → n �
 encoding-flat e k n t q r p =
     ap {B = EncodingAnswer} (λ (m : ℕ). record { refusal = m; encoding = valueOf k }) (q ∙ ap permutation.encodedNumber p)
     ∙ encoding-case k ∙ known encodingAnswer permutation.toldEncoded r p
-
-pub x86-flat : (saved : List ℕ) (o k : «OpcodeX86_64») (t : x86.Told) → _≡_ {A = x86.Told} (record { word = x86.wordOf o; saved = saved }) t → o ≡ k
-    → x86Word (x86.wordOf k) saved ≡ x86Answer t
-x86-flat saved o k t e p = ap (λ (j : «OpcodeX86_64»). x86Word (x86.wordOf j) saved) (sym p) ∙ ap x86Answer e
 
 -- one bit more below a number's bits
 pub pushed : (b : Bool) (bs : List Bool) (n r : ℕ) → r ≡ cond b 1 0 + 2 * n → n ≡ number bs → r ≡ number (b ∷ bs)

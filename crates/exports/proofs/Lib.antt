@@ -1,5 +1,6 @@
 pub mod Flattened
 pub mod Refusals
+pub mod FlatWords
 pub mod FlatFrames
 pub mod FlatUnwinds
 pub mod Batched

@@ -130,7 +130,8 @@ fn alone(opcode: OpcodeX86_64) -> ParsedX86_64
     }
 }
 
-fn fields(opcode: u32) -> [u8; 6]
+// The five fields of a frame-based word, and a 0.
+pub fn fields(opcode: u32) -> [u8; 6]
     ensures { λ r. ⌜ r ≡ x86.fields opcode ⌝ }
 {
     [
