@@ -13,10 +13,11 @@ use raw::Page;
 use reader::Read32;
 use search::Layout;
 
+// The end stands last for speed: beside the start it would be loaded with it at once, where each was stored by itself, and wait for both.
 pub struct Function {
     pub start_address: u32,
-    pub end_address: u32,
     pub opcode: u32,
+    pub end_address: u32,
 }
 
 pub enum Answer {
