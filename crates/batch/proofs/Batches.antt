@@ -1,20 +1,19 @@
 -- Answers of four numbers each, written one after the other.
 -- Assumes nothing.
-use Prim.Native.Nat.{ℕ, zero, suc, _+_, _-_, _*_, _/_, _≤_, _<_}
+use Prim.Native.Nat.{ℕ, suc, _+_, _*_, _/_, _≤_, _<_}
 use mathlib.Core.Path.{_≡_, refl, ap, sym, _∙_}
 use mathlib.Core.List.{List, [], _∷_, _++_, append-nil, append-assoc}
 use native.Mathlib.Omega.{arith}
 use native.Mathlib.Decide.{decLe}
 use borrow.Author.Tests.{le-leb, lt-leb}
-use lib.ListN.{length, getD, take, drop, set, length-append, length-drop, length-take}
-use lib.Seq.{sets, sets-eq, take-suc, take-at, drop-at, drop-drop, drop-append-add, length-take-le, take-all}
+use lib.ListN.{length, getD, take, drop, set, length-append, length-drop}
+use lib.Seq.{sets-eq, take-suc, take-at, drop-drop, drop-append-add, length-take-le}
 use Rattle.raw.specs.declared.Lists.{Lists}
 use Rattle.raw.specs.Checked.{good}
 use Rattle.raw.specs.Raw.{parseOf}
 use Rattle.lookup.specs.Lookup.{Looked, lookupIn, lookupOn}
 use Rattle.batch.specs.declared.Numbers.{Numbers}
-use Rattle.batch.specs.declared.Four.{Four}
-use Rattle.batch.specs.Batch.{numbersOf, listed, fourOf, answersOf, standing, fewerOf, putOf, batch, batchOf}
+use Rattle.batch.specs.Batch.{numbersOf, listed, answersOf, standing, fewerOf, putOf, fourFound, batch, batchOf}
 use Rattle.lookup.proofs.One.{after-parse}
 
 -- four numbers set one after the other
@@ -90,14 +89,12 @@ module _ (look : ℕ → Looked) where
 
   -- four answers more
   pub four-more : (xs out : List ℕ) (k : ℕ) → k + 4 ≤ length xs → 4 * k + 16 ≤ length out
-      → (q : Four) → q ≡ fourOf look (getD xs k 0) (getD xs (k + 1) 0) (getD xs (k + 2) 0) (getD xs (k + 3) 0)
-      → putOf (putOf (putOf (putOf (standing look xs out k) k (q .a)) (k + 1) (q .b)) (k + 2) (q .c)) (k + 3) (q .d) ≡ standing look xs out (k + 4)
-  four-more xs out k h t q e =
+      → fourFound look (standing look xs out k) k (getD xs k 0) (getD xs (k + 1) 0) (getD xs (k + 2) 0) (getD xs (k + 3) 0) ≡ standing look xs out (k + 4)
+  four-more xs out k h t =
       let e1 : k + 1 + 1 ≡ k + 2 = omega arith in
       let e2 : k + 2 + 1 ≡ k + 3 = omega arith in
       let e3 : k + 3 + 1 ≡ k + 4 = omega arith in
-      ap (λ (v : Four). putOf (putOf (putOf (putOf (standing look xs out k) k (v .a)) (k + 1) (v .b)) (k + 2) (v .c)) (k + 3) (v .d)) e
-      ∙ ap (λ (o : List ℕ). putOf (putOf (putOf o (k + 1) (at 1)) (k + 2) (at 2)) (k + 3) (at 3)) (one-more xs out k (omega arith) (omega arith))
+      ap (λ (o : List ℕ). putOf (putOf (putOf o (k + 1) (at 1)) (k + 2) (at 2)) (k + 3) (at 3)) (one-more xs out k (omega arith) (omega arith))
       ∙ ap (λ (o : List ℕ). putOf (putOf o (k + 2) (at 2)) (k + 3) (at 3)) (one-more xs out (k + 1) (omega arith) (omega arith) ∙ ap (standing look xs out) e1)
       ∙ ap (λ (o : List ℕ). putOf o (k + 3) (at 3)) (one-more xs out (k + 2) (omega arith) (omega arith) ∙ ap (standing look xs out) e2)
       ∙ one-more xs out (k + 3) (omega arith) (omega arith) ∙ ap (standing look xs out) e3
@@ -134,17 +131,16 @@ unfolding batchOf
 whole s xs out n list e f = ap (batch n) f ∙ ap (λ (k : ℕ). batch k (standing (lookupOn s) xs out k)) e
 
 -- on the lists of a parse
-pub on-bytes : (s : List ℕ) (l : Lists) → parseOf s ≡ good l → (a b c d : ℕ) → fourOf (lookupIn s l) a b c d ≡ fourOf (lookupOn s) a b c d
-on-bytes s l e a b c d = simp (after-parse s l e a, after-parse s l e b, after-parse s l e c, after-parse s l e d)
+pub on-bytes : (s : List ℕ) (l : Lists) → parseOf s ≡ good l → (out : List ℕ) (k a b c d : ℕ) → fourFound (lookupIn s l) out k a b c d ≡ fourFound (lookupOn s) out k a b c d
+on-bytes s l e out k a b c d = simp (after-parse s l e a, after-parse s l e b, after-parse s l e c, after-parse s l e d)
 
 -- four answers more, and one, as the loops write them
 module _ (s xs first out : List ℕ) (k : ℕ) (e : out ≡ standing (lookupOn s) xs first k) (o : List ℕ) where
   pub four-on : (l : Lists) → parseOf s ≡ good l → k + 4 ≤ length xs → 4 * k + 16 ≤ length first
-      → (q : Four) → q ≡ fourOf (lookupIn s l) (getD xs k 0) (getD xs (k + 1) 0) (getD xs (k + 2) 0) (getD xs (k + 3) 0)
-      → o ≡ putOf (putOf (putOf (putOf out k (q .a)) (k + 1) (q .b)) (k + 2) (q .c)) (k + 3) (q .d) → o ≡ standing (lookupOn s) xs first (k + 4)
-  four-on l p h t q eq eo =
-      eo ∙ ap (λ (v : List ℕ). putOf (putOf (putOf (putOf v k (q .a)) (k + 1) (q .b)) (k + 2) (q .c)) (k + 3) (q .d)) e
-      ∙ four-more (lookupOn s) xs first k h t q (eq ∙ on-bytes s l p (getD xs k 0) (getD xs (k + 1) 0) (getD xs (k + 2) 0) (getD xs (k + 3) 0))
+      → o ≡ fourFound (lookupIn s l) out k (getD xs k 0) (getD xs (k + 1) 0) (getD xs (k + 2) 0) (getD xs (k + 3) 0) → o ≡ standing (lookupOn s) xs first (k + 4)
+  four-on l p h t eo =
+      eo ∙ on-bytes s l p out k (getD xs k 0) (getD xs (k + 1) 0) (getD xs (k + 2) 0) (getD xs (k + 3) 0)
+      ∙ ap (λ (v : List ℕ). fourFound (lookupOn s) v k (getD xs k 0) (getD xs (k + 1) 0) (getD xs (k + 2) 0) (getD xs (k + 3) 0)) e ∙ four-more (lookupOn s) xs first k h t
 
   pub one-on : k < length xs → 4 * k + 4 ≤ length first → (n : Numbers) → n ≡ numbersOf (lookupOn s (getD xs k 0)) → o ≡ putOf out k n → o ≡ standing (lookupOn s) xs first (k + 1)
   one-on h t n en eo = eo ∙ ap (λ (v : List ℕ). putOf v k n) e ∙ ap (putOf (standing (lookupOn s) xs first k) k) en ∙ one-more (lookupOn s) xs first k h t

@@ -1,3 +1,4 @@
 pub mod Batches
+pub mod Header
 pub mod Laning
 pub mod One

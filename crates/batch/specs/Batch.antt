@@ -6,7 +6,6 @@ use mathlib.Core.List.{List, [], _∷_, _++_}
 use lib.Dec.{leb}
 use lib.ListN.{length, take, drop}
 use Rattle.batch.specs.declared.Numbers.{Numbers}
-use Rattle.batch.specs.declared.Four.{Four}
 use Rattle.lookup.specs.Lookup.{Looked, found, nothing, refusal, lookupOn}
 
 -- start, end and opcode of the function found, then the probes; 1 above them for a function, 2 for a refusal with its number above that
@@ -50,5 +49,9 @@ batchOf s xs out =
 unfoldable pub putOf : List ℕ → ℕ → Numbers → List ℕ
 putOf out k n = take (4 * k) out ++ listed n ++ drop (4 * k + 4) out
 
-abbrev pub fourOf : (ℕ → Looked) → ℕ → ℕ → ℕ → ℕ → Four
-fourOf look a b c d = record { a = numbersOf (look a); b = numbersOf (look b); c = numbersOf (look c); d = numbersOf (look d) }
+-- four answers from the k-th on, and those of four lookups
+abbrev pub fourPut : List ℕ → ℕ → (a b c d : Numbers) → List ℕ
+fourPut out k a b c d = putOf (putOf (putOf (putOf out k a) (k + 1) b) (k + 2) c) (k + 3) d
+
+abbrev pub fourFound : (ℕ → Looked) → List ℕ → (k a b c d : ℕ) → List ℕ
+fourFound look out k a b c d = fourPut out k (numbersOf (look a)) (numbersOf (look b)) (numbersOf (look c)) (numbersOf (look d))

@@ -1,23 +1,21 @@
 // Many addresses in one call. Four go side by side, so that the memory's waits of their searches overlap; each answer is the single lookup's.
 ghost use mathlib.Core.Path.{_≡_};
-ghost use Prim.Native.Nat.{_+_, _-_, _*_, _/_, _≤_, _<_};
-ghost use mathlib.Core.Bool.{true};
+ghost use Prim.Native.Nat.{_+_, _*_, _≤_, _<_};
 ghost use mathlib.Core.List.{List};
 ghost use Prim.Native.Nat.{ℕ};
-ghost use lib.ListN.{length, drop};
+ghost use lib.ListN.{length};
 ghost use Rattle.reader.specs.Reader.{wordAt, partOf};
 ghost use Rattle.raw.specs.declared.Kind.{Kind};
 ghost use Rattle.raw.specs.Checked.{good};
 ghost use Rattle.raw.specs.Raw.{parseOf, grantOf, pagesOf};
 ghost use Rattle.entries.specs.Straight.{Inside, entryOf, seamOf};
 ghost use Rattle.lookup.specs.Lookup.{refusal, lookupIn, lookupOn, lookedTold, probesOf};
-ghost use Rattle.batch.specs.Batch.{numbersOf, fourOf, standing, fewerOf, batch, batchOf, putOf};
-ghost use Rattle.batch.specs.Lanes.{LaneOf, Lanes, laned, tellFrom};
+ghost use Rattle.batch.specs.Batch.{numbersOf, standing, fewerOf, batch, batchOf, putOf, fourPut, fourFound};
+ghost use Rattle.batch.specs.Lanes.{halvesOf, LaneOf, Lanes, laned, Asked, tellFrom};
 use entries::Source;
 use lookup::Found;
 use raw::Kind;
 use raw::Lists;
-use raw::Opened;
 use raw::Page;
 use raw::Parsed;
 use search::Spot;
@@ -28,13 +26,6 @@ struct Numbers {
     pub end: u32,
     pub opcode: u32,
     pub told: u32,
-}
-
-struct Four {
-    pub a: Numbers,
-    pub b: Numbers,
-    pub c: Numbers,
-    pub d: Numbers,
 }
 
 // A compressed page that was read for an address: what its functions are read from. It has no entries where there is no such page.
@@ -67,13 +58,6 @@ fn flat(found: Found) -> Numbers
             told: probes + 131072 + 16777216 * error.number() as u32,
         },
     }
-}
-
-// How far pc lies above the base, 0 if below it.
-fn above(pc: u32, base: u32) -> u32
-    ensures { λ r. ⌜ r ≡ pc - base ⌝ }
-{
-    if base <= pc { pc - base } else { 0 }
 }
 
 fn put(out: &mut [u32], k: usize, n: Numbers)
@@ -131,46 +115,46 @@ fn lane_at(s: &[u8], lists: Lists, pages: &[u8], spot: Spot) -> Lane
     let first = word_at(pages, 12 * p);
     let offset = word_at(pages, 12 * p + 4);
     let next = word_at(pages, 12 * p + 12);
-    let Opened::Page(pg) = raw::read_page(s, offset, first) else {
-        return nowhere();
-    };
-    lane_of(s, lists, offset, next, pg, spot.probes)
+    lane_of(s, lists, offset, first, next, spot.probes)
 }
 
-fn lane_of(s: &[u8], lists: Lists, offset: u32, next: u32, pg: Page, probes: u32) -> Lane
-    requires { ⌜ offset ≤ length (now s) ⌝ }
-    ensures { λ r. ⌜ (0 < r .source .entries → LaneOf (now (s .entry)) lists offset next pg probes r) ⌝ }
+// The compressed page there. For speed its header is read as three words, each list's end is one comparison, and a page so high that an address in it might not fit is left to the single lookup.
+fn lane_of(s: &[u8], lists: Lists, offset: u32, first: u32, next: u32, probes: u32) -> Lane
+    ensures { λ r. ⌜ (0 < r .source .entries → LaneOf (now (s .entry)) lists offset first next probes r) ⌝ }
 {
-    let kind = pg.kind;
-    let Kind::Compressed = kind else {
-        return nowhere();
-    };
-    let from = offset as usize;
-    if !raw::has_local_opcodes(&s[from..], pg) {
+    let page = offset as usize;
+    if !reader::is_granted(s, page, 12) {
         return nowhere();
     }
-    Lane {
-        source: entries::source_of(lists, offset, next, pg),
-        probes,
+    if word_at(s, page) != raw::PAGE_KIND_COMPRESSED {
+        return nowhere();
     }
+    if first > 4278190080 {
+        return nowhere();
+    }
+    let pg = header_of(word_at(s, page + 4), word_at(s, page + 8), first);
+    let source = entries::source_of(lists, offset, next, pg);
+    if s.len() < source.first + 4 * source.entries as usize {
+        return nowhere();
+    }
+    if s.len() < source.locals_at + 4 * pg.local_opcodes_len as usize {
+        return nowhere();
+    }
+    Lane { source, probes }
 }
 
-fn are_there(a: Lane, b: Lane, c: Lane, d: Lane) -> bool
-    ensures { λ r. ⌜ (r ≡ true → (0 < a .source .entries) × (0 < b .source .entries) × (0 < c .source .entries) × (0 < d .source .entries)) ⌝ }
+// Places and counts, each in half a word.
+fn header_of(functions: u32, locals: u32, first: u32) -> Page
+    ensures { λ r. ⌜ r ≡ halvesOf functions locals first ⌝ }
 {
-    if a.source.entries == 0 {
-        return false;
+    Page {
+        kind: Kind::Compressed,
+        base: first,
+        functions_offset: functions % 65536,
+        functions_len: functions / 65536,
+        local_opcodes_offset: locals % 65536,
+        local_opcodes_len: locals / 65536,
     }
-    if b.source.entries == 0 {
-        return false;
-    }
-    if c.source.entries == 0 {
-        return false;
-    }
-    if d.source.entries == 0 {
-        return false;
-    }
-    true
 }
 
 fn refused(number: u32, probes: u32) -> Numbers
@@ -186,75 +170,64 @@ fn refused(number: u32, probes: u32) -> Numbers
 }
 
 // Where function i starts; past the last, the next page's first address.
-fn start_at(s: &[u8], q: Source, i: usize) -> u64
-    requires { ⌜ Inside (now s) q × (q .kind ≡ Kind.Compressed) ⌝ }
-    ensures { λ r. ⌜ r ≡ entryOf (now (s .entry)) q i .start ⌝ }
+fn start_at(s: &[u8], q: Source, i: usize) -> u32
+    requires { ⌜ Inside (now s) q × (q .kind ≡ Kind.Compressed) × (q .base ≤ 4278190080) ⌝ }
+    ensures { λ r. ⌜ (r ≡ entryOf (now (s .entry)) q i .start) × (r < 4294967296) ⌝ }
 {
     let first = q.first;
-    let base = q.base as u64;
+    let base = q.base;
     if q.entries as usize <= i {
-        return q.next as u64;
+        return q.next;
     }
-    base + (word_at(s, first + 4 * i) % 16777216) as u64
+    base + word_at(s, first + 4 * i) % 16777216
 }
 
 // One conditional move chooses the palette, and no jump that nobody could predict.
-fn seam(q: Source, index: usize) -> usize
+fn seam(q: Source, globals: usize, edge: usize, index: usize) -> usize
+    requires { ⌜ (globals ≡ q .globals) × (edge ≡ q .«globals_end») ⌝ }
     ensures { λ r. ⌜ r ≡ seamOf q index ⌝ }
 {
-    if index < q.globals {
-        q.globals_end
-    } else {
-        q.locals_at
-    }
+    if index < globals { edge } else { q.locals_at }
 }
 
-// The answer where the search in the page ended.
-fn answer(s: &[u8], m: Lane, spot: Spot) -> Numbers
-    requires { ⌜ Inside (now s) (m .source) × (m .source .kind ≡ Kind.Compressed) × (m .probes ≤ 32) × (spot .at ≤ m .source .entries) × (spot .probes ≤ 32) ⌝ }
+// The answer where the search in the page ended. For speed the palette's numbers are read of the lists, the same for all pages.
+fn answer(s: &[u8], lists: Lists, m: Lane, spot: Spot) -> Numbers
+    requires { ⌜ Asked (now s) lists m spot ⌝ }
     ensures { λ r. ⌜ r ≡ numbersOf (tellFrom (now (s .entry)) m spot) ⌝ }
 {
     let q = m.source;
+    let globals = lists.global_opcodes_len as usize;
+    let edge = lists.global_opcodes_offset as usize + 4 * globals;
     let at = spot.at;
     let probes = m.probes + spot.probes;
     if at == 0 {
         return refused(12, probes);
     }
     let word = word_at(s, q.first + 4 * (at - 1));
-    let start = q.base as u64 + (word % 16777216) as u64;
+    let start = q.base + word % 16777216;
     let end = start_at(s, q, at);
-    if start >= 4294967296 {
-        return refused(13, probes);
-    }
-    if end >= 4294967296 {
-        return refused(13, probes);
-    }
     let index = (word / 16777216) as usize;
     if q.opcodes <= index {
         return refused(14, probes);
     }
-    let place = seam(q, index) + 4 * index - 4 * q.globals;
+    let place = seam(q, globals, edge, index) + 4 * index - 4 * globals;
     Numbers {
-        start: start as u32,
-        end: end as u32,
+        start,
+        end,
         opcode: word_at(s, place),
         told: probes + 65536,
     }
 }
 
-fn singly(s: &[u8], lists: Lists, a: u32, b: u32, c: u32, d: u32) -> Four
-    ensures { λ r. ⌜ r ≡ fourOf (lookupIn (now (s .entry)) lists) a b c d ⌝ }
+fn singly(s: &[u8], lists: Lists, a: u32, b: u32, c: u32, d: u32, out: &mut [u32], k: usize)
+    requires { ⌜ 4 * k + 16 ≤ length (now out) ⌝ }
+    ensures { λ r. ⌜ now (out .exit) ≡ fourFound (lookupIn (now (s .entry)) lists) (now (out .entry)) k a b c d ⌝ }
 {
     let p = flat(lookup::lookup_in(s, lists, a));
     let q = flat(lookup::lookup_in(s, lists, b));
     let t = flat(lookup::lookup_in(s, lists, c));
     let u = flat(lookup::lookup_in(s, lists, d));
-    Four {
-        a: p,
-        b: q,
-        c: t,
-        d: u,
-    }
+    put_four(out, k, p, q, t, u);
 }
 
 fn functions_of(s: &[u8], m: Lane) -> &[u8]
@@ -278,50 +251,82 @@ fn in_pages(
     mc: Lane,
     d: u32,
     md: Lane,
-) -> Four
-    requires { ⌜ (grantOf (now s) lists ≡ good lists) × laned (now s) lists a ma × laned (now s) lists b mb × laned (now s) lists c mc × laned (now s) lists d md ⌝ }
-    ensures { λ r. ⌜ r ≡ fourOf (lookupIn (now (s .entry)) lists) a b c d ⌝ }
+    out: &mut [u32],
+    k: usize,
+)
+    requires { ⌜ (grantOf (now s) lists ≡ good lists) × laned (now s) lists a ma × laned (now s) lists b mb × laned (now s) lists c mc × laned (now s) lists d md × (4 * k + 16 ≤ length (now out)) ⌝ }
+    ensures { λ r. ⌜ now (out .exit) ≡ fourFound (lookupIn (now (s .entry)) lists) (now (out .entry)) k a b c d ⌝ }
 {
     let q = search::four_compressed(
         functions_of(s, ma),
-        above(a, ma.source.base),
+        a - ma.source.base,
         functions_of(s, mb),
-        above(b, mb.source.base),
+        b - mb.source.base,
         functions_of(s, mc),
-        above(c, mc.source.base),
+        c - mc.source.base,
         functions_of(s, md),
-        above(d, md.source.base),
+        d - md.source.base,
     );
-    let qa = q.a;
-    let qb = q.b;
-    let qc = q.c;
-    let qd = q.d;
-    Four {
-        a: answer(s, ma, qa),
-        b: answer(s, mb, qb),
-        c: answer(s, mc, qc),
-        d: answer(s, md, qd),
-    }
+    put_answers(s, lists, ma, q.a, mb, q.b, mc, q.c, md, q.d, out, k);
 }
 
-// Side by side where there are four such pages, else one after the other.
-fn group(s: &[u8], lists: Lists, pages: &[u8], a: u32, b: u32, c: u32, d: u32) -> Four
-    requires { ⌜ (now pages ≡ pagesOf (now s) lists) × (grantOf (now s) lists ≡ good lists) × (lists .«pages_len» < 4294967296) ⌝ }
-    ensures { λ r. ⌜ r ≡ fourOf (lookupIn (now (s .entry)) lists) a b c d ⌝ }
+// For speed each answer is put in its place before the next is read.
+fn put_answers(
+    s: &[u8],
+    lists: Lists,
+    ma: Lane,
+    qa: Spot,
+    mb: Lane,
+    qb: Spot,
+    mc: Lane,
+    qc: Spot,
+    md: Lane,
+    qd: Spot,
+    out: &mut [u32],
+    k: usize,
+)
+    requires { ⌜ Asked (now s) lists ma qa × Asked (now s) lists mb qb × Asked (now s) lists mc qc × Asked (now s) lists md qd × (4 * k + 16 ≤ length (now out)) ⌝ }
+    ensures { λ r. ⌜ now (out .exit) ≡ fourPut (now (out .entry)) k (numbersOf (tellFrom (now (s .entry)) ma qa)) (numbersOf (tellFrom (now (s .entry)) mb qb)) (numbersOf (tellFrom (now (s .entry)) mc qc)) (numbersOf (tellFrom (now (s .entry)) md qd)) ⌝ }
+{
+    put(out, k, answer(s, lists, ma, qa));
+    put(out, k + 1, answer(s, lists, mb, qb));
+    put(out, k + 2, answer(s, lists, mc, qc));
+    put(out, k + 3, answer(s, lists, md, qd));
+}
+
+// Side by side where there are four such pages, else one after the other. For speed each page is asked for as soon as it is read.
+fn group(
+    s: &[u8],
+    lists: Lists,
+    pages: &[u8],
+    a: u32,
+    b: u32,
+    c: u32,
+    d: u32,
+    out: &mut [u32],
+    k: usize,
+)
+    requires { ⌜ (now pages ≡ pagesOf (now s) lists) × (grantOf (now s) lists ≡ good lists) × (lists .«pages_len» < 4294967296) × (4 * k + 16 ≤ length (now out)) ⌝ }
+    ensures { λ r. ⌜ now (out .exit) ≡ fourFound (lookupIn (now (s .entry)) lists) (now (out .entry)) k a b c d ⌝ }
 {
     let p = search::four_pages(pages, a, b, c, d);
-    let pa = p.a;
-    let pb = p.b;
-    let pc = p.c;
-    let pd = p.d;
-    let ma = lane_at(s, lists, pages, pa);
-    let mb = lane_at(s, lists, pages, pb);
-    let mc = lane_at(s, lists, pages, pc);
-    let md = lane_at(s, lists, pages, pd);
-    if !are_there(ma, mb, mc, md) {
-        return singly(s, lists, a, b, c, d);
+    let ma = lane_at(s, lists, pages, p.a);
+    if ma.source.entries == 0 {
+        return singly(s, lists, a, b, c, d, out, k);
     }
-    in_pages(s, lists, a, ma, b, mb, c, mc, d, md)
+    let mb = lane_at(s, lists, pages, p.b);
+    if mb.source.entries == 0 {
+        return singly(s, lists, a, b, c, d, out, k);
+    }
+    let mc = lane_at(s, lists, pages, p.c);
+    if mc.source.entries == 0 {
+        return singly(s, lists, a, b, c, d, out, k);
+    }
+    let md = lane_at(s, lists, pages, p.d);
+    if md.source.entries == 0 {
+        return singly(s, lists, a, b, c, d, out, k);
+    }
+    in_pages(s, lists, a, ma, b, mb, c, mc, d, md, out, k);
 }
 
 // The answers four by four, as long as there are four; how many they are.
@@ -332,7 +337,7 @@ fn by_fours(s: &[u8], lists: Lists, addresses: &[u32], n: usize, out: &mut [u32]
     let pages = raw::pages(s, lists);
     let mut k: usize = 0;
     while n - k >= 4 {
-        let q = group(
+        group(
             s,
             lists,
             pages,
@@ -340,21 +345,18 @@ fn by_fours(s: &[u8], lists: Lists, addresses: &[u32], n: usize, out: &mut [u32]
             addresses[k + 1],
             addresses[k + 2],
             addresses[k + 3],
+            out,
+            k,
         );
-        put_four(out, k, q);
         k += 4;
     }
     k
 }
 
-fn put_four(out: &mut [u32], k: usize, q: Four)
+fn put_four(out: &mut [u32], k: usize, a: Numbers, b: Numbers, c: Numbers, d: Numbers)
     requires { ⌜ 4 * k + 16 ≤ length (now out) ⌝ }
-    ensures { λ r. ⌜ now (out .exit) ≡ putOf (putOf (putOf (putOf (now (out .entry)) k (q .a)) (k + 1) (q .b)) (k + 2) (q .c)) (k + 3) (q .d) ⌝ }
+    ensures { λ r. ⌜ now (out .exit) ≡ fourPut (now (out .entry)) k a b c d ⌝ }
 {
-    let a = q.a;
-    let b = q.b;
-    let c = q.c;
-    let d = q.d;
     put(out, k, a);
     put(out, k + 1, b);
     put(out, k + 2, c);

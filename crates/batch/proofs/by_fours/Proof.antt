@@ -1,15 +1,15 @@
 -- `batch::by_fours` meets its contract: each turn writes four answers more.
 -- Assumes nothing.
-use Rattle.batch.proofs.Batches.{none-yet, four-on, length-standing}
-use Rattle.batch.specs.Batch.{standing}
-use Rattle.lookup.specs.Lookup.{lookupOn}
-use Rattle.raw.proofs.Grants.{parsed}
-use lib.ListN.{length}
-use native.Mathlib.Omega.{arith}
-use mathlib.Core.List.{List}
-use mathlib.Core.Path.{_≡_, ap, _∙_}
-use Prim.Native.Nat.{ℕ, _-_, _≤_, _<_, _^_}
 use borrow.Author.Needs.{needs}
+use native.Mathlib.Omega.{arith}
+use mathlib.Core.Path.{_≡_, ap, _∙_}
+use Prim.Native.Nat.{ℕ, _-_, _≤_}
+use mathlib.Core.List.{List}
+use lib.ListN.{length}
+use Rattle.raw.proofs.Grants.{parsed}
+use Rattle.lookup.specs.Lookup.{lookupOn}
+use Rattle.batch.specs.Batch.{standing}
+use Rattle.batch.proofs.Batches.{none-yet, four-on, length-standing}
 use Rattle.batch.proofs.by_fours.Statement.{statement}
 use Rattle.batch.proofs.by_fours.Tie as tie
 
@@ -38,21 +38,16 @@ shared-slice-read-group-4 : tie.Need-shared-slice-read-group-4 Inv-loop μ-loop
 shared-slice-read-group-4 c = omega (arith, c .before .before .before .before .before .before .before .before .before .before .pre .1, c .before .before .before .before .loop-test .taken, c .before .before .before .before .before .loop .inv .0)
 
 group-requires : tie.Need-group-requires Inv-loop μ-loop
-group-requires c κs = (c .before .before .before .before .before .before .pages .ensures, parsed _ _ (c .before .before .before .before .before .before .before .before .before .before .pre .0), (search needs))
-
-put-four-requires : tie.Need-put-four-requires Inv-loop μ-loop
-put-four-requires c κs = omega (arith, ap (λ (l : List ℕ). length l) (c .before .before .before .before .before .before .before .loop .inv .1) ∙ length-standing _ _ _ _ (omega (arith, c .before .before .before .before .before .before .before .before .before .before .before .before .pre .1, c .before .before .before .before .before .before .before .loop .inv .0)) (omega (arith, c .before .before .before .before .before .before .before .before .before .before .before .before .pre .2, c .before .before .before .before .before .before .before .loop .inv .0)), c .before .before .before .before .before .before .loop-test .taken, c .before .before .before .before .before .before .before .loop .inv .0, c .before .before .before .before .before .before .before .before .before .before .before .before .pre .2)
+group-requires c κs = (c .before .before .before .before .before .before .before .pages .ensures, parsed _ _ (c .before .before .before .before .before .before .before .before .before .before .before .pre .0), (search needs), omega (arith, ap (λ (l : List ℕ). length l) (c .before .before .before .before .before .before .loop .inv .1) ∙ length-standing _ _ _ _ (omega (arith, c .before .before .before .before .before .before .before .before .before .before .before .pre .1, c .before .before .before .before .before .before .loop .inv .0)) (omega (arith, c .before .before .before .before .before .before .before .before .before .before .before .pre .2, c .before .before .before .before .before .before .loop .inv .0)), c .before .before .before .before .before .loop-test .taken, c .before .before .before .before .before .before .loop .inv .0, c .before .before .before .before .before .before .before .before .before .before .before .pre .2))
 
 add-k : tie.Need-add-k Inv-loop μ-loop
-add-k c =
-    let h : c .before .before .before .before .before .before .before .before .before .before .before .before .before .before .before .args .n < 2 ^ 64 = (let g = c .before .before .before .before .before .before .before .before .before .before .before .before .before .before .before .good .1 .1 .1 .0 in search needs) in
-    omega (arith, h, c .before .before .before .before .before .before .before .before .before .loop-test .taken, c .before .before .before .before .before .before .before .before .before .before .loop .inv .0)
+add-k c = omega (arith, c .before .before .before .before .before .before .before .before .before .before .before .before .before .before .good .1 .1 .1 .0 .1, c .before .before .before .before .before .before .before .before .loop-test .taken, c .before .before .before .before .before .before .before .before .before .loop .inv .0)
 
 loop-less : tie.Need-loop-less Inv-loop μ-loop
-loop-less c = omega (arith, c .before .before .before .before .before .before .before .before .before .loop-test .taken)
+loop-less c = omega (arith, c .before .before .before .before .before .before .before .before .loop-test .taken)
 
 loop-again : tie.Need-loop-again Inv-loop μ-loop
-loop-again c = (omega (arith, c .before .before .before .before .before .before .before .before .before .loop-test .taken, c .before .before .before .before .before .before .before .before .before .before .loop .inv .0), four-on _ _ _ _ _ (c .before .before .before .before .before .before .before .before .before .before .loop .inv .1) _ _ (c .before .before .before .before .before .before .before .before .before .before .before .before .before .before .before .pre .0) (omega (arith, c .before .before .before .before .before .before .before .before .before .before .before .before .before .before .before .pre .1, c .before .before .before .before .before .before .before .before .before .loop-test .taken, c .before .before .before .before .before .before .before .before .before .before .loop .inv .0)) (omega (arith, c .before .before .before .before .before .before .before .before .before .before .before .before .before .before .before .pre .2, c .before .before .before .before .before .before .before .before .before .loop-test .taken, c .before .before .before .before .before .before .before .before .before .before .loop .inv .0)) _ (c .before .before .before .before .group .ensures) (c .before .before .put-four .ensures))
+loop-again c = (omega (arith, c .before .before .before .before .before .before .before .before .loop-test .taken, c .before .before .before .before .before .before .before .before .before .loop .inv .0), four-on _ _ _ _ _ (c .before .before .before .before .before .before .before .before .before .loop .inv .1) _ _ (c .before .before .before .before .before .before .before .before .before .before .before .before .before .before .pre .0) (omega (arith, c .before .before .before .before .before .before .before .before .before .before .before .before .before .before .pre .1, c .before .before .before .before .before .before .before .before .loop-test .taken, c .before .before .before .before .before .before .before .before .before .loop .inv .0)) (omega (arith, c .before .before .before .before .before .before .before .before .before .before .before .before .before .before .pre .2, c .before .before .before .before .before .before .before .before .loop-test .taken, c .before .before .before .before .before .before .before .before .before .loop .inv .0)) (c .before .before .group .ensures))
 
 same-length : tie.Need-same-length Inv-loop μ-loop
 same-length c = ap (λ (l : List ℕ). length l) (c .before .loop .inv .1) ∙ length-standing _ _ _ _ (omega (arith, c .before .before .before .before .before .before .pre .1, c .before .loop .inv .0)) (omega (arith, c .before .before .before .before .before .before .pre .2, c .before .loop .inv .0))
@@ -61,6 +56,4 @@ returns : tie.Need-returns Inv-loop μ-loop
 returns c = (c .before .loop .inv .0, c .before .loop .inv .1)
 
 pub by-fours-spec : {M : Type 1} → statement M
-by-fours-spec =
-    tie.close
-    (tie.spec Inv-loop μ-loop (λ c κs. search needs) loop-holds sub-loop (λ c. search needs) shared-slice-read-group (λ c. search needs) (λ c. search needs) shared-slice-read-group-2 (λ c. search needs) (λ c. search needs) shared-slice-read-group-3 (λ c. search needs) (λ c. search needs) shared-slice-read-group-4 group-requires put-four-requires add-k loop-less loop-again same-length returns)
+by-fours-spec = tie.close (tie.spec Inv-loop μ-loop (λ c κs. search needs) loop-holds sub-loop (λ c. search needs) shared-slice-read-group (λ c. search needs) (λ c. search needs) shared-slice-read-group-2 (λ c. search needs) (λ c. search needs) shared-slice-read-group-3 (λ c. search needs) (λ c. search needs) shared-slice-read-group-4 group-requires add-k loop-less loop-again same-length returns)

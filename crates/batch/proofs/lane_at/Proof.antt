@@ -4,7 +4,7 @@ use borrow.Author.Needs.{needs}
 use native.Mathlib.Omega.{arith}
 use Prim.Native.Nat.{_-_}
 use Rattle.lookup.proofs.Straight.{entries-there}
-use Rattle.batch.proofs.Laning.{none-there, starts, lanes}
+use Rattle.batch.proofs.Laning.{none-there, lanes}
 use Rattle.batch.proofs.lane_at.Statement.{statement}
 use Rattle.batch.proofs.lane_at.Tie as tie
 
@@ -13,9 +13,6 @@ returns c = λ h. none-there (c .nowhere .ensures) h
 
 returns-2 : tie.Need-returns-2
 returns-2 c = λ h. none-there (c .nowhere2 .ensures) h
-
-returns-3 : tie.Need-returns-3
-returns-3 c = λ h. none-there (c .nowhere3 .ensures) h
 
 word-at-requires : tie.Need-word-at-requires
 word-at-requires c κs = let p = c .before .before .before .before .pre in omega (arith, entries-there _ _ (p .1) _ (p .0) (c .before .before .before .before .args .spot .at - 1) (omega (arith, p .2, c .before .if1 .left, c .if2 .left)))
@@ -26,11 +23,8 @@ word-at-requires-2 c κs = let p = c .before .before .before .before .before .pr
 word-at-requires-3 : tie.Need-word-at-requires-3
 word-at-requires-3 c κs = let p = c .before .before .before .before .before .before .pre in omega (arith, entries-there _ _ (p .1) _ (p .0) (c .before .before .before .before .before .before .args .spot .at - 1) (omega (arith, p .2, c .before .before .before .if1 .left, c .before .before .if2 .left)))
 
-lane-of-requires : tie.Need-lane-of-requires
-lane-of-requires c κs = let p = c .before .before .before .before .before .before .before .before .before .before .before .pre in starts _ _ (p .1) _ (p .0) (c .before .before .before .before .before .before .before .before .before .before .before .args .spot) (c .before .before .before .before .before .before .before .before .if1 .left) (c .before .before .before .before .before .before .before .if2 .left) _ _ _ (c .before .before .before .before .before .before .word-at .ensures) (c .before .before .before .before .before .word-at2 .ensures) (c .before .before .before .before .word-at3 .ensures) _ (c .before .before .before .read-page .ensures) _ (c .before .pg .given .1)
-
-returns-4 : tie.Need-returns-4
-returns-4 c = let p = c .before .before .before .before .before .before .before .before .before .before .before .before .pre in lanes _ _ (p .1) _ (p .0) (c .before .before .before .before .before .before .before .before .before .before .before .before .args .spot) (c .before .before .before .before .before .before .before .before .before .if1 .left) (c .before .before .before .before .before .before .before .before .if2 .left) _ _ _ (c .before .before .before .before .before .before .before .word-at .ensures) (c .before .before .before .before .before .before .word-at2 .ensures) (c .before .before .before .before .before .word-at3 .ensures) _ (c .before .before .before .before .read-page .ensures) _ (c .before .before .pg .given .1) (λ i. omega (arith, c .before .before .before .before .before .before .before .before .before .before .before .shared-slice-known .given i)) (p .3) _ (c .lane-of .ensures)
+returns-3 : tie.Need-returns-3
+returns-3 c = let p = c .before .before .before .before .before .before .before .before .pre in lanes _ _ (p .1) _ (p .0) (c .before .before .before .before .before .before .before .before .args .spot) (c .before .before .before .before .before .if1 .left) (c .before .before .before .before .if2 .left) _ _ _ (c .before .before .before .word-at .ensures) (c .before .before .word-at2 .ensures) (c .before .word-at3 .ensures) (λ i. omega (arith, c .before .before .before .before .before .before .before .shared-slice-known .given i)) (p .3) _ (c .lane-of .ensures)
 
 pub lane-at-spec : {M : Type 1} → statement M
-lane-at-spec = tie.close (tie.spec (λ c κs. search needs) returns (λ c. search needs) (λ c κs. search needs) returns-2 (λ c. search needs) (λ c. search needs) word-at-requires (λ c. search needs) (λ c. search needs) word-at-requires-2 (λ c. search needs) (λ c. search needs) word-at-requires-3 (λ c κs. search needs) (λ c. search needs) (λ c. search needs) (λ c κs. search needs) returns-3 lane-of-requires returns-4)
+lane-at-spec = tie.close (tie.spec (λ c κs. search needs) returns (λ c. search needs) (λ c κs. search needs) returns-2 (λ c. search needs) (λ c. search needs) word-at-requires (λ c. search needs) (λ c. search needs) word-at-requires-2 (λ c. search needs) (λ c. search needs) word-at-requires-3 (λ c κs. search needs) returns-3)

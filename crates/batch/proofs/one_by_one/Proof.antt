@@ -3,7 +3,7 @@
 use Rattle.batch.specs.Batch.{numbersOf}
 use Rattle.batch.proofs.Batches.{one-on}
 use borrow.Author.Needs.{needs}
-use Rattle.batch.proofs.Batches.{one-more, length-put}
+use Rattle.batch.proofs.Batches.{length-put}
 use Rattle.lookup.proofs.Probes.{few-on}
 use Rattle.batch.specs.Batch.{standing}
 use Rattle.lookup.specs.Lookup.{lookupOn, probesOf}
