@@ -1,6 +1,6 @@
 -- Lookups of a batch: a page that was read for an address, and the answer where the search in it ended.
 -- Assumes nothing.
-use Prim.Native.Nat.{ℕ, zero, suc, _+_, _-_, _*_, _/_, _%_, _≤_, _<_}
+use Prim.Native.Nat.{ℕ, suc, _+_, _-_, _*_, _/_, _%_, _≤_, _<_}
 use mathlib.Core.Path.{_≡_, refl, ap, sym, _∙_}
 use mathlib.Core.List.{List}
 use mathlib.Core.Bool.{cond}
@@ -14,8 +14,8 @@ use Rattle.reader.proofs.Laws.{tail}
 use Rattle.search.specs.declared.Spot.{Spot}
 use Rattle.search.specs.declared.Spots.{Spots}
 use Rattle.search.specs.declared.Layout.{Layout}
-use Rattle.search.specs.Search.{countOf, keyOf, mid, more, rounds, run, searchOf, spotsOf}
-use Rattle.search.proofs.Laws.{Way, done, up, down, way, rounds-done, rounds-up, rounds-down}
+use Rattle.search.specs.Search.{countOf, keyOf, searchOf, spotsOf}
+use Rattle.search.proofs.Ends.{low-end}
 use Rattle.raw.specs.declared.Lists.{Lists}
 use Rattle.raw.specs.declared.Kind.{Kind}
 use Rattle.raw.specs.declared.Page.{Page}
@@ -55,23 +55,12 @@ none-there e h = absurd (omega arith)
 pub apart : {q : Spots} {a b c d : Spot} → q ≡ spotsOf a b c d → (q .a ≡ a) × (q .b ≡ b) × (q .c ≡ c) × (q .d ≡ d)
 apart e = (ap (λ (x : Spots). x .a) e, ap (λ (x : Spots). x .b) e, ap (λ (x : Spots). x .c) e, ap (λ (x : Spots). x .d) e)
 
--- the entry before the place where a search ended has a key of at most the one sought
-module _ (key : ℕ → ℕ) (x : ℕ) where
-  met : (f lo hi : ℕ) → Way key x lo hi → ((i : ℕ) → lo ≡ suc i → key i ≤ x) → (i : ℕ) → rounds key x f lo hi .at ≡ suc i → key i ≤ x
-  unfolding rounds more
-  met zero lo hi w h i e = h i e
-  met (suc f) lo hi (done l) h i e = h i (ap (λ (p : Spot). p .at) (sym (rounds-done key x (suc f) lo hi l)) ∙ e)
-  met (suc f) lo hi (up l u) h i e =
-      met f (mid lo hi + 1) hi (way key x _ _)
-      (λ j q. let same : mid lo hi ≡ j = omega arith in rw same at u) i (ap (λ (p : Spot). p .at) (sym (rounds-up key x f lo hi l u)) ∙ e)
-  met (suc f) lo hi (down l u) h i e = met f lo (mid lo hi) (way key x _ _) h i (ap (λ (p : Spot). p .at) (sym (rounds-down key x f lo hi l u)) ∙ e)
-
+-- the page before the place where the search of pages ended starts at pc or below it
 starts-before : (pages : List ℕ) (pc at : ℕ) → (at ≡ 0 → ⊥) → at ≡ searchOf pages Layout.Pages pc .at → wordAt 4 pages (12 * (at - 1)) ≤ pc
-unfolding searchOf run keyOf
+unfolding searchOf keyOf
 starts-before pages pc at h e =
-    let n = countOf pages Layout.Pages in
     let same : at ≡ suc (at - 1) = omega arith in
-    met (keyOf pages Layout.Pages) pc (n - 0) 0 n (way _ _ _ _) (λ i q. absurd (omega arith)) (at - 1) (sym e ∙ same)
+    low-end (keyOf pages Layout.Pages) pc (countOf pages Layout.Pages) (at - 1) (sym e ∙ same)
 
 -- a header's words, and two comparisons that were passed
 pub lane-there : (s : List ℕ) → Bytes s → (l : Lists) (o first next probes k x y : ℕ) → o + 12 ≤ length s → k ≡ wordAt 4 s o → x ≡ wordAt 4 s (o + 4) → y ≡ wordAt 4 s (o + 8) → k ≡ 3 → first ≤ 4278190080

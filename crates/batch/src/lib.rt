@@ -118,7 +118,11 @@ fn lane_at(s: &[u8], lists: Lists, pages: &[u8], spot: Spot) -> Lane
     lane_of(s, lists, offset, first, next, spot.probes)
 }
 
-// The compressed page there. For speed its header is read as three words, each list's end is one comparison, and a page so high that an address in it might not fit is left to the single lookup.
+// A first address above this, and a function of its page might start at 2^32 or above.
+const HIGHEST: u32 = 4278190080;
+
+// The compressed page there. For speed its header is read as three words, each list's end is one comparison, and a page so high that an
+// address in it might not fit is left to the single lookup.
 fn lane_of(s: &[u8], lists: Lists, offset: u32, first: u32, next: u32, probes: u32) -> Lane
     ensures { λ r. ⌜ (0 < r .source .entries → LaneOf (now (s .entry)) lists offset first next probes r) ⌝ }
 {
@@ -129,7 +133,7 @@ fn lane_of(s: &[u8], lists: Lists, offset: u32, first: u32, next: u32, probes: u
     if word_at(s, page) != raw::PAGE_KIND_COMPRESSED {
         return nowhere();
     }
-    if first > 4278190080 {
+    if first > HIGHEST {
         return nowhere();
     }
     let pg = header_of(word_at(s, page + 4), word_at(s, page + 8), first);

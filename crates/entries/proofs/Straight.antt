@@ -33,7 +33,7 @@ unfolding numberAt
 number-in zero m l o h = refl
 number-in (suc n) m l o h = simp (getD-take m l o 0 (omega arith), number-in n m l (suc o) (omega arith))
 
-word-in : (s : List ℕ) (o m : ℕ) → o + m ≤ length s → (at : ℕ) → at + 4 ≤ m → wordAt 4 (partOf s o m) at ≡ wordAt 4 s (o + at)
+pub word-in : (s : List ℕ) (o m : ℕ) → o + m ≤ length s → (at : ℕ) → at + 4 ≤ m → wordAt 4 (partOf s o m) at ≡ wordAt 4 s (o + at)
 unfolding partOf
 word-in s o m h at t =
     there 4 (partOf s o m) at (omega (arith, length-part s o m h)) ∙ number-in 4 m (drop o s) at t ∙ part 4 o s at

@@ -1,15 +1,14 @@
 -- Reading straight: where a list was granted, an entry is there, and an opcode is the one that its index names.
 -- Assumes nothing.
-use Prim.Native.Nat.{ℕ, zero, suc, _+_, _-_, _*_, _/_, _≤_, _<_}
-use mathlib.Core.Path.{_≡_, refl, ap, sym, _∙_}
-use mathlib.Core.List.{List, []}
+use Prim.Native.Nat.{ℕ, suc, _+_, _-_, _*_, _/_, _≤_, _<_}
+use mathlib.Core.Path.{_≡_, ap, sym, _∙_}
+use mathlib.Core.List.{List}
 use mathlib.Core.Bool.{Bool, true, false, not, _||_}
 use native.Mathlib.Nat.{add-zero}
 use native.Mathlib.Omega.{arith}
 use borrow.Author.Tests.{lt-ltb, le-ltb, lt-leb}
-use lib.ListN.{length, take, drop, length-drop}
-use lib.Seq.{getD-take}
-use Rattle.reader.specs.Reader.{value, outside, numberAt, grantedOf, readOf, wordAt, partOf}
+use lib.ListN.{length}
+use Rattle.reader.specs.Reader.{value, outside, grantedOf, readOf, wordAt, partOf}
 use Rattle.reader.proofs.Laws as reading
 use Rattle.search.specs.Search.{sizeOf, keyOf}
 use Rattle.raw.specs.declared.Kind.{Kind}
@@ -19,8 +18,9 @@ use Rattle.raw.specs.Checked.{good, refused}
 use Rattle.raw.specs.Raw.{grantOf, pagesOf, firstIn, offsetIn, layout, localsGranted}
 use Rattle.raw.proofs.Grants.{granted, length-pages}
 use Rattle.entries.specs.Section.{firstOf, offsetOf}
-use Rattle.entries.specs.Entries.{functionsOf, localsOf, fourOf, isGlobal, opcodePart, resolveOf}
+use Rattle.entries.specs.Entries.{functionsOf, localsOf, fourOf, isGlobal, resolveOf}
 use Rattle.entries.proofs.Cases as cases
+use Rattle.entries.proofs.Straight.{word-in}
 
 -- by the page's kind
 pub key-by : (j k : Kind) (i m : ℕ) → j ≡ k → sizeOf (layout j) * i + 4 ≤ m → sizeOf (layout k) * i + 4 ≤ m
@@ -42,12 +42,7 @@ unfolding functionsOf
 list-inside page pg functions e h =
     omega (arith, ap (λ (l : List ℕ). length l) e, reading.length-part page (pg .«functions_offset») (sizeOf (layout (pg .kind)) * pg .«functions_len») h)
 
--- lists that were granted are granted again, and lie in the section
-pub again : (s : List ℕ) (l m : Lists) → grantOf s l ≡ good m → grantOf s m ≡ good m
-again s l m e =
-    let same = granted s l m e .0 in
-    rw (← same) at e
-
+-- lists that were granted lie in the section
 module _ (s : List ℕ) (l : Lists) (g : grantOf s l ≡ good l) where
   pub globals-inside : l .«global_opcodes_offset» + 4 * l .«global_opcodes_len» ≤ length s
   globals-inside = reading.fits (4 * l .«global_opcodes_len») s (l .«global_opcodes_offset») (granted s l l g .1)
@@ -74,26 +69,13 @@ module _ (s : List ℕ) (l : Lists) (g : grantOf s l ≡ good l) where
         let q : 12 * p + 12 ≡ 12 * suc p = omega arith in
         e ∙ ap (wordAt 4 pages) q ∙ ap (λ (q : List ℕ). wordAt 4 q (12 * suc p)) ep
 
--- a number in the first bytes of a list
-taken : (n m : ℕ) (l : List ℕ) (o : ℕ) → o + n ≤ m → numberAt n (take m l) o ≡ numberAt n l o
-unfolding numberAt
-taken zero m l o h = refl
-taken (suc n) m l o h = simp (getD-take m l o 0 (omega arith), taken n m l (suc o) (omega arith))
-
--- a number in a part is the number in the whole, further on
-pub word-part : (s : List ℕ) (o m i : ℕ) → o + m ≤ length s → i + 4 ≤ m → wordAt 4 (partOf s o m) i ≡ wordAt 4 s (o + i)
-unfolding partOf
-word-part s o m i h t =
-    reading.there 4 (partOf s o m) i (omega (arith, reading.length-part s o m h)) ∙ taken 4 m (drop o s) i t ∙ reading.part 4 o s i
-    ∙ sym (reading.there 4 s (o + i) (omega arith))
-
 -- four bytes that are there, or not
 module _ (s : List ℕ) (o : ℕ) where
   four-read : o + 4 ≤ length s → readOf 4 (fourOf s o) 0 ≡ value (wordAt 4 s o)
   four-read h =
       let e : fourOf s o ≡ partOf s o 4 = sym (cases.four-there s o (reading.grants 4 s o h)) in
       ap (λ (l : List ℕ). readOf 4 l 0) e ∙ reading.granted 4 (partOf s o 4) 0 (omega (arith, reading.length-part s o 4 h))
-      ∙ ap value (sym (reading.there 4 (partOf s o 4) 0 (omega (arith, reading.length-part s o 4 h))) ∙ word-part s o 4 0 h (omega arith) ∙ ap (wordAt 4 s) (add-zero o))
+      ∙ ap value (sym (reading.there 4 (partOf s o 4) 0 (omega (arith, reading.length-part s o 4 h))) ∙ word-in s o 4 h 0 (omega arith) ∙ ap (wordAt 4 s) (add-zero o))
 
   four-missing : length s < o + 4 → readOf 4 (fourOf s o) 0 ≡ outside
   unfolding fourOf grantedOf readOf
@@ -147,4 +129,4 @@ module _ (globals page : List ℕ) (pg : Page) (index : ℕ) where
       unfolding localsOf
       in-list t =
           cases.an-opcode globals index its there allowed (fourOf its (4 * (index - length globals / 4))) (cases.names-local globals index its h) _
-          (four-read its (4 * (index - length globals / 4)) (omega (arith, length-its)) ∙ ap value (word-part page (pg .«local_opcodes_offset») (4 * pg .«local_opcodes_len») (4 * (index - length globals / 4)) (locals-inside page pg e) (omega arith)))
+          (four-read its (4 * (index - length globals / 4)) (omega (arith, length-its)) ∙ ap value (word-in page (pg .«local_opcodes_offset») (4 * pg .«local_opcodes_len») (locals-inside page pg e) (4 * (index - length globals / 4)) (omega arith)))

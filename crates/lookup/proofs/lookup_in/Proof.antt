@@ -1,6 +1,6 @@
 -- `lookup::lookup_in` meets its contract: as the lists are granted or refused.
 -- Assumes nothing.
-use Rattle.lookup.proofs.Straight.{again}
+use Rattle.entries.proofs.Straight.{granted-again}
 use borrow.Author.Needs.{needs}
 use mathlib.Core.Path.{refl, ap, sym, _∙_}
 use Rattle.raw.specs.Raw.{listsTold}
@@ -10,7 +10,7 @@ use Rattle.lookup.proofs.lookup_in.Statement.{statement}
 use Rattle.lookup.proofs.lookup_in.Tie as tie
 
 lookup-of-requires : tie.Need-lookup-of-requires
-lookup-of-requires c κs = again _ _ _ (sym (c .before .before .before .grant .ensures) ∙ ap listsTold (c .before .granted .given .1))
+lookup-of-requires c κs = granted-again _ _ _ (sym (c .before .before .before .grant .ensures) ∙ ap listsTold (c .before .granted .given .1))
 
 returns : tie.Need-returns
 unfolding lookupIn
