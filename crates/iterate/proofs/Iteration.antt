@@ -1,17 +1,24 @@
--- The cursor's rules, as equations with no count of pages left; and that the calls from the first cursor end, with the answers page after page.
+-- The cursor's rules, as equations with no count of pages left; that an end is told for ever; and that the calls from the first cursor end, with
+-- the answers page after page.
 -- Assumes nothing.
 use Prim.Native.Nat.{ℕ, zero, suc, _+_, _-_, _≤_, _<_}
 use mathlib.Core.Path.{_≡_, refl, _∙_}
+use mathlib.Core.Bool.{Bool, true, false, cond}
 use mathlib.Core.List.{List, _++_}
 use native.Mathlib.Omega.{arith}
 use borrow.Author.Tests.{lt-ltb, le-ltb}
+use lib.Dec.{ltb}
 use Rattle.raw.specs.declared.Lists.{Lists}
 use Rattle.raw.specs.declared.Page.{Page}
 use Rattle.entries.specs.declared.Function.{Function}
 use Rattle.iterate.specs.declared.Cursor.{Cursor}
-use Rattle.raw.specs.Checked.{Checked, good, refused}
+use Rattle.raw.specs.Checked.{Checked, good, refused, either}
+use Rattle.raw.specs.Raw.{parseOf, grantOf}
 use Rattle.entries.specs.Section.{openedAt, functionAt}
-use Rattle.iterate.specs.Iterate.{cursor, endCursor, Step, answer, end, inPage, nextFrom, nextOf, Iterates, ends, answers, functionsFrom, inPages, pagesFrom, iterated}
+use Rattle.iterate.specs.Iterate.{cursor, endCursor, Step, answer, end, inPage, nextFrom, nextOf, nextIn, nextOn, Iterates, ends, answers, functionsFrom, inPages, pagesFrom, iterated}
+
+never : {x : Step} {d e : Cursor} {a : Checked Function} → x ≡ end d → x ≡ answer a e → ⊥
+never p q = let z : _≡_ {A = ℕ} 0 1 = cc in omega arith
 
 module _ (s : List ℕ) (l : Lists) where
   -- at or past the last page: the end, for ever
@@ -21,8 +28,30 @@ module _ (s : List ℕ) (l : Lists) where
       let none : l .«pages_len» - 1 - p ≡ 0 = omega arith in
       rw none refl
 
-  pub for-ever : nextOf s l (endCursor l) ≡ end (endCursor l)
-  for-ever = at-end (l .«pages_len» - 1) 0 (omega arith)
+  -- every end hands back the same cursor
+  hands-back : (left p i : ℕ) (d : Cursor) → nextFrom s l left p i ≡ end d → d ≡ endCursor l
+  unfolding nextFrom inPage
+  hands-back zero p i d e = cc
+  hands-back (suc left) p i d e = by-page (openedAt s l p) (hands-back left (p + 1) 0 d) e
+    where
+      later : Step
+      later = nextFrom s l left (p + 1) 0
+
+      by-test : (b : Bool) (a : Checked Function) (c : Cursor) → (later ≡ end d → d ≡ endCursor l) → cond b (answer a c) later ≡ end d → d ≡ endCursor l
+      by-test true a c go q = absurd (never q refl)
+      by-test false a c go q = go q
+
+      by-page : (o : Checked Page) → (later ≡ end d → d ≡ endCursor l) → inPage s l p i o later ≡ end d → d ≡ endCursor l
+      by-page (good pg) go q = by-test (ltb i (pg .«functions_len»)) _ _ go q
+      by-page (refused k) go q = absurd (never q refl)
+
+  pub end-hands-back : (c d : Cursor) → nextOf s l c ≡ end d → d ≡ endCursor l
+  unfolding nextOf
+  end-hands-back c d e = hands-back (l .«pages_len» - 1 - c .page) (c .page) (c .index) d e
+
+  -- and tells it again
+  pub for-ever : (c d : Cursor) → nextOf s l c ≡ end d → nextOf s l d ≡ end d
+  for-ever c d e = rw (end-hands-back c d e) (at-end (l .«pages_len» - 1) 0 (omega arith))
 
   -- before it: the page is opened
   pub at-page : (p i : ℕ) → p + 1 < l .«pages_len» → nextOf s l (cursor p i) ≡ inPage s l p i (openedAt s l p) (nextOf s l (cursor (p + 1) 0))
@@ -68,9 +97,6 @@ module _ (s : List ℕ) (l : Lists) where
   unfolding iterated
   iterates = pages (l .«pages_len» - 1) 0 (omega arith)
 
-  never : {x : Step} {d e : Cursor} {a : Checked Function} → x ≡ end d → x ≡ answer a e → ⊥
-  never p q = let z : _≡_ {A = ℕ} 0 1 = cc in omega arith
-
   -- a cursor's calls have one list of answers
   pub one-list : {c : Cursor} {a b : List (Checked Function)} → Iterates s l c a → Iterates s l c b → a ≡ b
   one-list (ends p) (ends q) = refl
@@ -80,3 +106,17 @@ module _ (s : List ℕ) (l : Lists) where
       let e : c ≡ d = cc in
       let f = one-list i (rw (← e) at j) in
       cc
+
+-- the same of the calls over the bytes with the lists' places, and over the bytes alone
+module _ (s : List ℕ) (c d : Cursor) where
+  lists-end : (t : Checked Lists) → either (λ k. answer (refused k) c) (λ m. nextOf s m c) t ≡ end d → either (λ k. answer (refused k) d) (λ m. nextOf s m d) t ≡ end d
+  lists-end (good l) e = for-ever s l c d e
+  lists-end (refused k) e = absurd (never e refl)
+
+  pub for-ever-in : (l : Lists) → nextIn s l c ≡ end d → nextIn s l d ≡ end d
+  unfolding nextIn
+  for-ever-in l e = lists-end (grantOf s l) e
+
+  pub for-ever-on : nextOn s c ≡ end d → nextOn s d ≡ end d
+  unfolding nextOn
+  for-ever-on e = lists-end (parseOf s) e
