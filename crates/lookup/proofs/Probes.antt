@@ -4,112 +4,133 @@ use Prim.Native.Nat.{ℕ, _+_, _-_, _*_, _^_, _≤_, _<_, zero-le}
 use mathlib.Core.Path.{_≡_, refl}
 use mathlib.Core.Bool.{Bool, true, false, cond}
 use mathlib.Core.List.{List}
+use mathlib.Core.Logic.{_↔_}
+use native.Mathlib.Nat.{lt-of-lt-of-le}
 use native.Mathlib.Omega.{arith}
 use lib.Dec.{eqb}
-use lib.ListN.{length, drop, length-take, length-drop}
-use Rattle.reader.specs.Reader.{partOf}
+use lib.Ieee.{size}
+use lib.Ieee.Digits.{size-lt, size-le}
+use lib.ListN.{length, length-drop}
+use lib.Pow.{pow-mono}
+use Rattle.reader.proofs.Laws.{fits}
 use Rattle.search.specs.declared.Spot.{Spot}
 use Rattle.search.specs.declared.Layout.{Layout}
 use Rattle.search.specs.Search.{sizeOf, countOf, keyOf, searchOf}
 use Rattle.search.proofs.Laws.{bits}
+use Rattle.search.proofs.Turns.{less-inside}
 use Rattle.raw.specs.declared.Lists.{Lists}
 use Rattle.raw.specs.declared.Page.{Page}
 use Rattle.raw.specs.Checked.{Checked, good, refused, either}
 use Rattle.raw.specs.Raw.{parseOf, grantOf, pagesOf, pageOf, layout}
+use Rattle.raw.proofs.Grants.{granted, parsed}
+use Rattle.raw.proofs.Opens.{functions-granted}
 use Rattle.entries.specs.declared.Function.{Function}
 use Rattle.entries.specs.Entries.{functionsOf}
 use Rattle.entries.specs.Section.{firstOf, offsetOf, pageAt}
 use Rattle.lookup.specs.Lookup.{Looked, refusal, telling, fromSpot, fromPage, atPage, fromPages, lookupOf, lookupIn, lookupOn, probesOf}
-use Rattle.lookup.proofs.Steps.{no-page, last-page, a-page}
 use Rattle.lookup.proofs.Cases.{counted, few-pages}
 
-choose : (b : Bool) (x y : Looked) (n : ℕ) → probesOf x ≤ n → probesOf y ≤ n → probesOf (cond b x y) ≤ n
-choose true x y n h k = h
-choose false x y n h k = k
+-- how many binary digits a number has: the least k with the number below 2 ^ k
+abbrev pub bitLength : ℕ → ℕ
+bitLength n = size n
+
+pub bit-length : (n k : ℕ) → (n < 2 ^ k) ↔ (bitLength n ≤ k)
+bit-length n k = (size-le n k, λ h. lt-of-lt-of-le (size-lt n) (pow-mono h))
+
+-- the function count of the page that a lookup searches; 0 where it searches none: no page is found, or the last one, or the page is refused
+abbrev pub countIn : Checked Page → ℕ
+countIn (good pg) = pg .«functions_len»
+countIn (refused k) = 0
+
+unfoldable pub searchedAfter : List ℕ → Lists → Spot → ℕ
+searchedAfter s l spot =
+    cond (eqb (spot .at) 0) 0 (cond (eqb (spot .at) (l .«pages_len»)) 0 (countIn (pageOf s (offsetOf s l (spot .at - 1)) (firstOf s l (spot .at - 1)))))
+
+unfoldable pub functionsSearched : List ℕ → Lists → ℕ → ℕ
+functionsSearched s l pc = searchedAfter s l (searchOf (pagesOf s l) Layout.Pages pc)
+
+-- 01's bound
+abbrev pub mostProbes : List ℕ → ℕ → Lists → ℕ
+mostProbes s pc l = bitLength (l .«pages_len») + bitLength (functionsSearched s l pc)
 
 tells : (n : ℕ) (a : Checked Function) → probesOf (telling n a) ≡ n
 tells n (good f) = refl
 tells n (refused k) = refl
 
--- a list of fewer than 2 ^ k entries
-search-bits : (list : List ℕ) (l : Layout) (x k : ℕ) → countOf list l < 2 ^ k → searchOf list l x .probes ≤ k
+-- the same test for the answer and for the count
+choose : (b : Bool) (x y : Looked) (j m n : ℕ) → probesOf x ≤ j + bitLength m → probesOf y ≤ j + bitLength n → probesOf (cond b x y) ≤ j + bitLength (cond b m n)
+choose true x y j m n h k = h
+choose false x y j m n h k = k
+
+same : (b : Bool) (x y : Looked) (n : ℕ) → probesOf x ≤ n → probesOf y ≤ n → probesOf (cond b x y) ≤ n
+same true x y n h k = h
+same false x y n h k = k
+
+in-list : (list : List ℕ) (y : Layout) (x n : ℕ) → countOf list y ≤ n → searchOf list y x .probes ≤ bitLength n
 unfolding searchOf
-search-bits list l x k h = bits (keyOf list l) x (countOf list l) k h
+in-list list y x n h = bits (keyOf list y) x (countOf list y) (bitLength n) (omega (arith, size-lt n))
 
--- so many entries, fewer than 2 ^ j pages and in each page that is read fewer than 2 ^ k functions
-module _ (s : List ℕ) (l : Lists) (pc j k : ℕ) (few : countOf (pagesOf s l) Layout.Pages < 2 ^ j)
-    (each : (p : ℕ) (pg : Page) → pageOf s (offsetOf s l p) (firstOf s l p) ≡ good pg → countOf (functionsOf (pageAt s l p) pg) (layout (pg .kind)) < 2 ^ k) where
-  in-page : (p probes : ℕ) (o : Checked Page) → pageOf s (offsetOf s l p) (firstOf s l p) ≡ o → probesOf (fromPage s l pc p probes o) ≤ probes + k
-  unfolding fromPage fromSpot
-  in-page p probes (refused n) e = omega arith
-  in-page p probes (good pg) e =
-      let h = search-bits (functionsOf (pageAt s l p) pg) (layout (pg .kind)) (pc - pg .base) k (each p pg e) in
-      choose (eqb (searchOf (functionsOf (pageAt s l p) pg) (layout (pg .kind)) (pc - pg .base) .at) 0) _ _ (probes + k) (omega arith) (rw tells (omega arith))
+module _ (s : List ℕ) (l : Lists) (pc : ℕ) where
+  in-page : (p probes : ℕ) (o : Checked Page) → probesOf (fromPage s l pc p probes o) ≤ probes + bitLength (countIn o)
+  unfolding fromPage fromSpot functionsOf
+  in-page p probes (refused k) = omega arith
+  in-page p probes (good pg) =
+      let list = functionsOf (pageAt s l p) pg in
+      let h = in-list list (layout (pg .kind)) (pc - pg .base) (pg .«functions_len») (counted (layout (pg .kind)) (pageAt s l p) (pg .«functions_offset») (pg .«functions_len»)) in
+      same (eqb (searchOf list (layout (pg .kind)) (pc - pg .base) .at) 0) _ _ _ (omega arith) (rw tells (omega arith))
 
-  in-bits : probesOf (lookupOf s l pc) ≤ j + k
-  unfolding lookupOf fromPages atPage
-  in-bits =
-      let h = search-bits (pagesOf s l) Layout.Pages pc j few in
+  pub probes : probesOf (lookupOf s l pc) ≤ mostProbes s pc l
+  unfolding lookupOf fromPages atPage functionsSearched searchedAfter
+  probes =
       let spot = searchOf (pagesOf s l) Layout.Pages pc in
-      choose (eqb (spot .at) 0) _ _ (j + k) (omega arith) (choose (eqb (spot .at) (l .«pages_len»)) _ _ (j + k) (omega arith) (omega (arith, in-page (spot .at - 1) (spot .probes) _ refl)))
+      let h = in-list (pagesOf s l) Layout.Pages pc (l .«pages_len») (few-pages s l (pagesOf s l) refl) in
+      choose (eqb (spot .at) 0) _ _ _ 0 _ (omega arith)
+      (choose (eqb (spot .at) (l .«pages_len»)) _ _ _ 0 _ (omega arith) (omega (arith, in-page (spot .at - 1) (spot .probes) (pageOf s (offsetOf s l (spot .at - 1)) (firstOf s l (spot .at - 1))))))
 
-few-functions : (page : List ℕ) (pg : Page) → countOf (functionsOf page pg) (layout (pg .kind)) ≤ pg .«functions_len»
-unfolding functionsOf
-few-functions page pg = counted (layout (pg .kind)) page (pg .«functions_offset») (pg .«functions_len»)
+-- over the bytes with the lists' places, and over the bytes alone: lists that are refused take no probe
+module _ (s : List ℕ) (pc : ℕ) where
+  by-lists : (t : Checked Lists) → probesOf (either (λ k. refusal k 0) (λ m. lookupOf s m pc) t) ≤ either (λ k. 0) (mostProbes s pc) t
+  by-lists (good l) = probes s l pc
+  by-lists (refused k) = zero-le
 
--- 01's bound: the bit lengths of the page count and of the function count of the page searched
-pub probes : (s : List ℕ) (l : Lists) (pc j k : ℕ) → l .«pages_len» < 2 ^ j
-    → ((p : ℕ) (pg : Page) → pageOf s (offsetOf s l p) (firstOf s l p) ≡ good pg → pg .«functions_len» < 2 ^ k) → probesOf (lookupOf s l pc) ≤ j + k
-probes s l pc j k few each =
-    in-bits s l pc j k (omega (arith, few-pages s l (pagesOf s l) refl)) (λ p pg e. omega (arith, few-functions (pageAt s l p) pg, each p pg e))
+  pub probes-in : (l : Lists) → probesOf (lookupIn s l pc) ≤ either (λ k. 0) (mostProbes s pc) (grantOf s l)
+  unfolding lookupIn
+  probes-in l = by-lists (grantOf s l)
 
--- and where no page is searched, that of the page count alone: no page is found or the last, or the page is refused
-module _ (s : List ℕ) (l : Lists) (pc j : ℕ) (few : l .«pages_len» < 2 ^ j) where
-  abbrev spot : Spot
-  spot = searchOf (pagesOf s l) Layout.Pages pc
-
-  of-pages : spot .probes ≤ j
-  of-pages = search-bits (pagesOf s l) Layout.Pages pc j (omega (arith, few-pages s l (pagesOf s l) refl))
-
-  pub probes-before : spot .at ≡ 0 → probesOf (lookupOf s l pc) ≤ j
-  unfolding lookupOf
-  probes-before e = rw (no-page s l pc spot e) of-pages
-
-  module _ (h : spot .at ≡ 0 → ⊥) where
-    pub probes-past : spot .at ≡ l .«pages_len» → probesOf (lookupOf s l pc) ≤ j
-    unfolding lookupOf
-    probes-past e = rw (last-page s l pc spot h e) of-pages
-
-    pub probes-refused : (k : ℕ) → (spot .at ≡ l .«pages_len» → ⊥) → pageOf s (offsetOf s l (spot .at - 1)) (firstOf s l (spot .at - 1)) ≡ refused k → probesOf (lookupOf s l pc) ≤ j
-    unfolding lookupOf atPage fromPage
-    probes-refused k u e = rw (a-page s l pc spot h u) (simp e of-pages)
+  pub probes-on : probesOf (lookupOn s pc) ≤ either (λ k. 0) (mostProbes s pc) (parseOf s)
+  unfolding lookupOn
+  probes-on = by-lists (parseOf s)
 
 -- in any section that memory holds the probes are few
-counted-bytes : (l : Layout) (list : List ℕ) → countOf list l ≤ length list
-unfolding countOf
-counted-bytes Layout.Pages list = omega arith
-counted-bytes Layout.Regular list = omega arith
-counted-bytes Layout.Compressed list = omega arith
-
-part-bytes : (s : List ℕ) (o n : ℕ) → length (partOf s o n) ≤ length s
-unfolding partOf
-part-bytes s o n = omega (arith, length-take n (drop o s), length-drop o s)
-
 module _ (s : List ℕ) (h : length s < 2 ^ 64) where
-  of-lists : (l : Lists) (pc : ℕ) → probesOf (lookupOf s l pc) ≤ 128
-  unfolding pagesOf functionsOf pageAt
-  of-lists l pc =
-      in-bits s l pc 64 64 (omega (arith, counted-bytes Layout.Pages (pagesOf s l), part-bytes s (l .«pages_offset») (12 * l .«pages_len»)))
-      (λ p pg e. omega (arith, counted-bytes (layout (pg .kind)) (functionsOf (pageAt s l p) pg), part-bytes (drop (offsetOf s l p) s) (pg .«functions_offset») (sizeOf (layout (pg .kind)) * pg .«functions_len»), length-drop (offsetOf s l p) s))
+  least : (b : Bool) (m n k : ℕ) → m ≤ k → n ≤ k → cond b m n ≤ k
+  least true m n k t u = t
+  least false m n k t u = u
 
-  by-lists : (t : Checked Lists) (pc : ℕ) → probesOf (either (λ k. refusal k 0) (λ m. lookupOf s m pc) t) ≤ 128
-  by-lists (good l) pc = of-lists l pc
-  by-lists (refused k) pc = zero-le
+  in-section : (offset first : ℕ) (o : Checked Page) → pageOf s offset first ≡ o → countIn o ≤ length s
+  in-section offset first (refused k) e = zero-le
+  in-section offset first (good pg) e =
+      less-inside (layout (pg .kind)) _ _ (omega (arith, fits _ _ (pg .«functions_offset») (functions-granted s offset first pg e), length-drop offset s))
+
+  few-after : (l : Lists) (spot : Spot) → searchedAfter s l spot ≤ length s
+  unfolding searchedAfter
+  few-after l spot =
+      least (eqb (spot .at) 0) _ _ _ zero-le
+      (least (eqb (spot .at) (l .«pages_len»)) _ _ _ zero-le (in-section (offsetOf s l (spot .at - 1)) (firstOf s l (spot .at - 1)) _ refl))
+
+  few-searched : (l : Lists) (pc : ℕ) → functionsSearched s l pc ≤ length s
+  unfolding functionsSearched
+  few-searched l pc = few-after l (searchOf (pagesOf s l) Layout.Pages pc)
+
+  few : (t : Checked Lists) (pc : ℕ) → ((l : Lists) → t ≡ good l → grantOf s l ≡ good l) → probesOf (either (λ k. refusal k 0) (λ m. lookupOf s m pc) t) ≤ 128
+  few (refused k) pc g = zero-le
+  few (good l) pc g =
+      omega (arith, probes s l pc, size-le (functionsSearched s l pc) 64 (omega (arith, few-searched l pc)), size-le (l .«pages_len») 64 (omega (arith, fits _ s (l .«pages_offset») (granted s l l (g l refl) .2))))
 
   pub few-on : (pc : ℕ) → probesOf (lookupOn s pc) ≤ 128
   unfolding lookupOn
-  few-on pc = by-lists (parseOf s) pc
+  few-on pc = few (parseOf s) pc (parsed s)
 
   pub few-in : (l : Lists) (pc : ℕ) → probesOf (lookupIn s l pc) ≤ 128
   unfolding lookupIn
-  few-in l pc = by-lists (grantOf s l) pc
+  few-in l pc = few (grantOf s l) pc (λ m e. rw (← granted s l m e .0) at e)

@@ -49,10 +49,6 @@ fewer-inside Layout.Pages hi n m h t = omega arith
 fewer-inside Layout.Regular hi n m h t = omega arith
 fewer-inside Layout.Compressed hi n m h t = omega arith
 
-more-none : (p : Spot) → more 0 p ≡ p
-unfolding more
-more-none p = simp zero-add
-
 -- what is chosen of two equal numbers, and of an entry and the last one
 both : (t : Bool) (a b : ℕ) → a ≡ b → cond t a b ≡ b
 both true a b e = e
