@@ -10,8 +10,7 @@ use Rattle.reader.specs.Reader.{Bytes}
 use Rattle.raw.specs.Checked.{Checked, good, refused, either}
 use Rattle.raw.proofs.Grants.{parsed, as-parsed}
 use Rattle.entries.specs.declared.Function.{Function}
-use Rattle.iterate.specs.declared.Cursor.{Cursor}
-use Rattle.iterate.specs.Iterate.{cursor, answer, nextOf, nextIn, nextOn, Iterates, iterated}
+use Rattle.iterate.specs.Iterate.{cursor, Iterates, iterated}
 use Rattle.iterate.proofs.Iteration.{iterates, one-list}
 use Rattle.iterate.proofs.Members.{Place, function, page, place}
 use Rattle.lookup.specs.Lookup.{found, nothing, refusal, lookupOf, lookupIn, lookupOn, Covers}
@@ -129,12 +128,3 @@ module _ (s : List ℕ) (bytes : Bytes s) (w : WellFormed s) where
 
   pub and-no-others : (r : List (Checked Function)) → Iterates s (w .lists) (cursor 0 0) r → r ≡ map good (all-functions .0)
   and-no-others r i = one-list s (w .lists) i calls-answer-functions
-
-  -- these calls are those over the bytes alone, and those over the bytes with the lists' places
-  pub calls-on : (c : Cursor) → nextOn s c ≡ nextOf s (w .lists) c
-  unfolding nextOn
-  calls-on c = ap (either (λ k. answer (refused k) c) (λ m. nextOf s m c)) (w .parses)
-
-  pub calls-in : (c : Cursor) → nextIn s (w .lists) c ≡ nextOf s (w .lists) c
-  unfolding nextIn
-  calls-in c = ap (either (λ k. answer (refused k) c) (λ m. nextOf s m c)) (parsed s (w .lists) (w .parses))
