@@ -12,7 +12,7 @@ use Rattle.raw.specs.declared.Lists.{Lists}
 use Rattle.raw.specs.declared.Parsed.{Parsed}
 use Rattle.raw.specs.declared.Error.{Error}
 use Rattle.raw.specs.Checked.{Checked, good, refused, _>>=_, _>>_, either, check, numberOf}
-use Rattle.raw.specs.Raw.{grantOf, headerOf, parseOf, globalsOf, pagesOf, listsTold}
+use Rattle.raw.specs.Raw.{grantOf, headerOf, parseOf, pagesOf, listsTold}
 
 module _ (s : List ℕ) where
   module _ (l : Lists) where
@@ -48,10 +48,6 @@ module _ (s : List ℕ) where
     pub length-pages : pagesGranted ≡ true → length (pagesOf s l) ≡ 12 * l .«pages_len»
     unfolding pagesOf
     length-pages t = length-part s (l .«pages_offset») (12 * l .«pages_len») (fits (12 * l .«pages_len») s (l .«pages_offset») t)
-
-    pub length-globals : globalsGranted ≡ true → length (globalsOf s l) ≡ 4 * l .«global_opcodes_len»
-    unfolding globalsOf
-    length-globals t = length-part s (l .«global_opcodes_offset») (4 * l .«global_opcodes_len») (fits (4 * l .«global_opcodes_len») s (l .«global_opcodes_offset») t)
 
   pub no-header : grantedOf 28 s 0 ≡ false → refused 1 ≡ parseOf s
   unfolding parseOf

@@ -8,12 +8,13 @@ use mathlib.Core.List.{List, [], _∷_, map, List·Memᴰ, List·Memᴰ·head, L
 use native.Mathlib.Omega.{arith}
 use Rattle.reader.specs.Reader.{Bytes}
 use Rattle.raw.specs.Checked.{Checked, good, refused, either}
-use Rattle.raw.proofs.Grants.{parsed, as-parsed}
+use Rattle.raw.proofs.Grants.{parsed}
 use Rattle.entries.specs.declared.Function.{Function}
 use Rattle.iterate.specs.Iterate.{cursor, Iterates, iterated}
 use Rattle.iterate.proofs.Iteration.{iterates, one-list}
 use Rattle.iterate.proofs.Members.{Place, function, page, place}
 use Rattle.lookup.specs.Lookup.{found, nothing, refusal, lookupOf, lookupIn, lookupOn, Covers}
+use Rattle.lookup.proofs.One.{after-parse}
 use Rattle.well_formed.specs.WellFormed.{WellFormed}
 use Rattle.well_formed.proofs.Agree.{Outcome, covered, none, complete, sound, is-good, good-page}
 
@@ -31,14 +32,10 @@ module _ (s : List ℕ) (bytes : Bytes s) (w : WellFormed s) where
   abbrev pub Iterated : Function → Type 0
   Iterated f = List·Memᴰ (good f) (iterated s (w .lists))
 
-  -- a lookup over the bytes alone, and one over the bytes with the lists' places, are the lookup over the lists
+  -- a lookup over the bytes alone is the lookup over the lists
   looks-on : (pc : ℕ) → lookupOn s pc ≡ lookupOf s (w .lists) pc
   unfolding lookupOn
   looks-on pc = ap (either (λ k. refusal k 0) (λ m. lookupOf s m pc)) (w .parses)
-
-  pub looks-alike : (pc : ℕ) → lookupIn s (w .lists) pc ≡ lookupOn s pc
-  unfolding lookupIn lookupOn
-  looks-alike pc = as-parsed (λ k. refusal k 0) (λ m. lookupOf s m pc) s (w .lists) (w .parses)
 
   module _ (pc : ℕ) where
     outcome : Outcome s bytes (w .lists) pc (lookupOn s pc)
@@ -86,24 +83,17 @@ module _ (s : List ℕ) (bytes : Bytes s) (w : WellFormed s) where
         by-outcome (none k q) = let z : _≡_ {A = ℕ} 0 1 = cc in omega arith
 
     -- the same over the bytes with the lists' places
-    pub answers-in : (f : Function) → Iterated f → Covers f pc → (probes : ℕ) × (lookupIn s (w .lists) pc ≡ found f probes)
-    answers-in f m c =
-        let a = answers f m c in
-        (a .0, looks-alike pc ∙ a .1)
-
-    pub answered-in : (f : Function) (probes : ℕ) → lookupIn s (w .lists) pc ≡ found f probes → Iterated f × Covers f pc
-    answered-in f probes e = answered f probes (sym (looks-alike pc) ∙ e)
+    alike : lookupIn s (w .lists) pc ≡ lookupOn s pc
+    alike = after-parse s (w .lists) (w .parses) pc
 
     pub exactly-in : (f : Function) → ((probes : ℕ) × (lookupIn s (w .lists) pc ≡ found f probes)) ↔ (Iterated f × Covers f pc)
-    exactly-in f = (λ a. answered-in f (a .0) (a .1), λ m. answers-in f (m .0) (m .1))
+    exactly-in f = rw alike (exactly f)
 
     pub otherwise-in : ((f : Function) → Iterated f → Covers f pc → ⊥) → (probes : ℕ) × (lookupIn s (w .lists) pc ≡ nothing probes)
-    otherwise-in h =
-        let a = otherwise h in
-        (a .0, looks-alike pc ∙ a .1)
+    otherwise-in h = rw alike (otherwise h)
 
     pub refuses-nothing-in : (number probes : ℕ) → lookupIn s (w .lists) pc ≡ refusal number probes → ⊥
-    refuses-nothing-in number probes e = refuses-nothing number probes (sym (looks-alike pc) ∙ e)
+    refuses-nothing-in number probes e = refuses-nothing number probes (sym alike ∙ e)
 
   -- the iteration refuses nothing either
   pub iterates-functions : (a : Checked Function) → List·Memᴰ a (iterated s (w .lists)) → (f : Function) × (a ≡ good f)

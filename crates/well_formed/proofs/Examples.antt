@@ -1,70 +1,99 @@
--- Document 01's section S, "Numbers to try": what its parse, its lookups and its iteration tell, by computation.
+-- Document 01's section S, "Numbers to try", and a section T whose two pages are a regular and a compressed one: what they tell, by computation.
 -- Assumes nothing.
-use Prim.Native.Nat.{ℕ}
-use mathlib.Core.Path.{_≡_, refl}
-use mathlib.Core.Bool.{true, false}
+use Prim.Native.Nat.{ℕ, zero, suc, _+_, _*_, _/_, _%_}
+use mathlib.Core.Path.{_≡_, refl, ap}
+use mathlib.Core.Bool.{Bool, true, false}
 use mathlib.Core.List.{List, [], _∷_, map}
-use lib.ListN.{take}
-use Rattle.reader.specs.Reader.{numberAt, grantedOf, readOf, wordAt, partOf}
-use Rattle.search.specs.Search.{countOf, keyOf, mid, more, rounds, run, searchOf}
-use Rattle.raw.specs.declared.Lists.{Lists}
-use Rattle.raw.specs.Checked.{good, refused}
-use Rattle.raw.specs.Raw.{grantOf, headerOf, parseOf, globalsOf, pagesOf, firstIn, offsetIn, regularOf, compressedOf, byKind, pageOf, localsGranted, openOf}
+use Rattle.raw.specs.Checked.{Checked, good}
 use Rattle.entries.specs.declared.Function.{Function}
-use Rattle.entries.specs.Entries.{functionsOf, localsOf, fourOf, isGlobal, opcodePart, startIn, endIn, resolveOf, opcodeIn, functionIn, startOf, functionOf}
-use Rattle.entries.specs.Section.{firstOf, offsetOf, pageAt, openedAt, functionAt}
-use Rattle.iterate.specs.Iterate.{functionsFrom, inPages, pagesFrom, iterated}
-use Rattle.lookup.specs.Lookup.{Looked, found, nothing, refusal, fromSpot, fromPage, atPage, fromPages, lookupOf, lookupOn}
-use Rattle.well_formed.specs.WellFormed.{WellFormed, all, goodFunction, goodFunctions, goodOpened, goodPage, goodPages, wellFormed}
+use Rattle.iterate.specs.declared.Range.{Range}
+use Rattle.iterate.specs.Iterate.{cursor, answer, end}
+use Rattle.lookup.specs.Lookup.{found, nothing}
+use Rattle.well_formed.specs.WellFormed.{WellFormed}
 use Rattle.well_formed.proofs.Checker.{said-yes}
+use Rattle.well_formed.proofs.Questions.{_⇒_, Row, row, answered}
 
 abbrev pub S : List ℕ
 S =
     1 ∷ 0 ∷ 0 ∷ 0 ∷ 28 ∷ 0 ∷ 0 ∷ 0 ∷ 1 ∷ 0 ∷ 0 ∷ 0 ∷ 32 ∷ 0 ∷ 0 ∷ 0 ∷ 0 ∷ 0 ∷ 0 ∷ 0 ∷ 32 ∷ 0 ∷ 0 ∷ 0 ∷ 2 ∷ 0 ∷ 0 ∷ 0 ∷ 1 ∷ 0 ∷ 1 ∷ 1 ∷ 0 ∷ 16 ∷ 0 ∷ 0 ∷ 56 ∷ 0 ∷ 0 ∷ 0 ∷ 0 ∷ 0 ∷ 0 ∷ 0 ∷ 0 ∷ 17 ∷ 0 ∷ 0 ∷ 0 ∷ 0 ∷ 0 ∷ 0 ∷ 0 ∷ 0 ∷ 0 ∷ 0 ∷ 3 ∷ 0 ∷ 0 ∷ 0 ∷ 12 ∷ 0 ∷ 2 ∷ 0 ∷ 20 ∷ 0 ∷ 1 ∷ 0 ∷ 0 ∷ 0 ∷ 0 ∷ 0 ∷ 64 ∷ 0 ∷ 0 ∷ 1 ∷ 0 ∷ 8 ∷ 3 ∷ 2 ∷ []
 
-abbrev pub lists : Lists
-lists = record { «global_opcodes_offset» = 28; «global_opcodes_len» = 1; «pages_offset» = 32; «pages_len» = 2 }
+abbrev pub from : (start end opcode : ℕ) → Function
+from a b w = record { «start_address» = a; «end_address» = b; opcode = w }
 
 abbrev pub first : Function
-first = record { «start_address» = 0x1000; «end_address» = 0x1040; opcode = 0x01010001 }
+first = from 0x1000 0x1040 0x01010001
 
 abbrev pub second : Function
-second = record { «start_address» = 0x1040; «end_address» = 0x1100; opcode = 0x02030800 }
+second = from 0x1040 0x1100 0x02030800
 
-abbrev pub asked : List ℕ
-asked = 0x0fff ∷ 0x1000 ∷ 0x103f ∷ 0x1040 ∷ 0x1100 ∷ []
+abbrev pub ranging : ℕ → ℕ → Checked Range
+ranging a b = good (record { start = a; end = b })
 
-abbrev pub told : List Looked
-told = nothing 2 ∷ found first 4 ∷ found first 4 ∷ found second 3 ∷ nothing 1 ∷ []
+-- numbers as four bytes each, the lowest first; and two halves in one number, the low one first
+abbrev words : List ℕ → List ℕ
+words [] = []
+words (n ∷ ns) = n % 256 ∷ n / 256 % 256 ∷ n / 65536 % 256 ∷ n / 16777216 ∷ words ns
 
-pub parses : parseOf S ≡ good lists
-unfolding numberAt grantedOf readOf wordAt grantOf headerOf parseOf
-parses = refl
+abbrev halves : ℕ → ℕ → ℕ
+halves low high = low + 65536 * high
 
-pub looks : map (lookupOn S) asked ≡ told
-unfolding numberAt grantedOf readOf wordAt partOf countOf keyOf mid more rounds run searchOf grantOf headerOf parseOf globalsOf pagesOf firstIn offsetIn regularOf compressedOf byKind pageOf localsGranted functionsOf localsOf fourOf isGlobal opcodePart startIn endIn resolveOf opcodeIn functionIn functionOf firstOf offsetOf pageAt functionAt fromSpot fromPage atPage fromPages lookupOf lookupOn
-looks = refl
+-- No list stands right after what comes before it, the numbers of each header differ, and the last entry names a page that could be read.
+-- Header and personality; global opcodes; page entries; the regular page; the compressed page.
+abbrev pub T : List ℕ
+T =
+    words
+    (1 ∷ 40 ∷ 2 ∷ 28 ∷ 1 ∷ 52 ∷ 3 ∷ 0xa1 ∷ 0xa2 ∷ 0xa3
+    ∷ 0x01010001 ∷ 0x02020800 ∷ 0xb1
+    ∷ 0x1000 ∷ 88 ∷ 0xc1 ∷ 0x1100 ∷ 120 ∷ 0xc2 ∷ 0x1200 ∷ 120 ∷ 0xc3
+    ∷ 2 ∷ halves 12 2 ∷ 0xd1 ∷ 0x1000 ∷ 0x04000001 ∷ 0x1080 ∷ 0x02001000 ∷ 0xd2
+    ∷ 3 ∷ halves 24 3 ∷ halves 16 1 ∷ 0xe1 ∷ 0x02030800 ∷ 0xe2 ∷ 0x01000000 ∷ 0x02000040 ∷ 0x00000080 ∷ [])
 
-pub iterates : iterated S lists ≡ good first ∷ good second ∷ []
-unfolding numberAt grantedOf readOf wordAt partOf keyOf globalsOf pagesOf firstIn offsetIn regularOf compressedOf byKind pageOf localsGranted openOf functionsOf localsOf fourOf isGlobal opcodePart startIn endIn resolveOf opcodeIn functionIn functionOf firstOf offsetOf pageAt openedAt functionAt functionsFrom inPages pagesFrom iterated
-iterates = refl
+abbrev pub rows : List Row
+rows =
+    row S true (ranging 0x1000 0x1100)
+    ((cursor 0 0 ⇒ answer (good first) (cursor 0 1))
+    ∷ (cursor 0 1 ⇒ answer (good second) (cursor 0 2))
+    ∷ (cursor 0 2 ⇒ end (cursor 1 0))
+    ∷ [])
+    ((0x0fff ⇒ nothing 2)
+    ∷ (0x1000 ⇒ found first 4)
+    ∷ (0x103f ⇒ found first 4)
+    ∷ (0x1040 ⇒ found second 3)
+    ∷ (0x1100 ⇒ nothing 1)
+    ∷ [])
+    ∷ row T true (ranging 0x1000 0x1200)
+    ((cursor 0 0 ⇒ answer (good (from 0x1000 0x1080 0x04000001)) (cursor 0 1))
+    ∷ (cursor 0 1 ⇒ answer (good (from 0x1080 0x1100 0x02001000)) (cursor 0 2))
+    ∷ (cursor 0 2 ⇒ answer (good (from 0x1100 0x1140 0x02020800)) (cursor 1 1))
+    ∷ (cursor 1 1 ⇒ answer (good (from 0x1140 0x1180 0x02030800)) (cursor 1 2))
+    ∷ (cursor 1 2 ⇒ answer (good (from 0x1180 0x1200 0x01010001)) (cursor 1 3))
+    ∷ (cursor 1 3 ⇒ end (cursor 2 0))
+    ∷ (cursor 2 0 ⇒ end (cursor 2 0))
+    ∷ (cursor 77 5 ⇒ end (cursor 2 0))
+    ∷ [])
+    ((0x0fff ⇒ nothing 2)
+    ∷ (0x107f ⇒ found (from 0x1000 0x1080 0x04000001) 4)
+    ∷ (0x1080 ⇒ found (from 0x1080 0x1100 0x02001000) 3)
+    ∷ (0x1100 ⇒ found (from 0x1100 0x1140 0x02020800) 4)
+    ∷ (0x1140 ⇒ found (from 0x1140 0x1180 0x02030800) 4)
+    ∷ (0x11ff ⇒ found (from 0x1180 0x1200 0x01010001) 4)
+    ∷ (0x1200 ⇒ nothing 2)
+    ∷ [])
+    ∷ []
 
-checked : wellFormed S ≡ true
-unfolding numberAt grantedOf readOf wordAt partOf keyOf grantOf headerOf parseOf globalsOf pagesOf firstIn offsetIn regularOf compressedOf byKind pageOf localsGranted openOf functionsOf localsOf fourOf isGlobal opcodePart startIn endIn resolveOf opcodeIn startOf firstOf offsetOf pageAt openedAt all goodFunction goodFunctions goodOpened goodPage goodPages wellFormed
-checked = refl
+pub worked : map answered rows ≡ rows
+unfolding answered
+worked = refl
+
+formed : ℕ → List Row → Bool
+formed n [] = false
+formed zero (r ∷ rs) = r .formed
+formed (suc n) (r ∷ rs) = formed n rs
 
 pub S-is-well-formed : WellFormed S
-S-is-well-formed = said-yes S checked
+unfolding answered formed
+S-is-well-formed = said-yes S (ap (formed 0) worked)
 
--- its first 79 bytes are not: 11 in iteration, and the first function still looks up
-pub shorter-iterates : iterated (take 79 S) lists ≡ refused 11 ∷ []
-unfolding numberAt grantedOf readOf wordAt partOf keyOf globalsOf pagesOf firstIn offsetIn regularOf compressedOf byKind pageOf localsGranted openOf functionsOf localsOf fourOf isGlobal opcodePart startIn endIn resolveOf opcodeIn functionIn functionOf firstOf offsetOf pageAt openedAt functionAt functionsFrom inPages pagesFrom iterated
-shorter-iterates = refl
-
-pub shorter-looks : map (lookupOn (take 79 S)) asked ≡ nothing 2 ∷ found first 4 ∷ found first 4 ∷ refusal 11 3 ∷ nothing 1 ∷ []
-unfolding numberAt grantedOf readOf wordAt partOf countOf keyOf mid more rounds run searchOf grantOf headerOf parseOf globalsOf pagesOf firstIn offsetIn regularOf compressedOf byKind pageOf localsGranted functionsOf localsOf fourOf isGlobal opcodePart startIn endIn resolveOf opcodeIn functionIn functionOf firstOf offsetOf pageAt functionAt fromSpot fromPage atPage fromPages lookupOf lookupOn
-shorter-looks = refl
-
-pub shorter-is-not : wellFormed (take 79 S) ≡ false
-unfolding numberAt grantedOf readOf wordAt partOf keyOf grantOf headerOf parseOf globalsOf pagesOf firstIn offsetIn regularOf compressedOf byKind pageOf localsGranted openOf functionsOf localsOf fourOf isGlobal opcodePart startIn endIn resolveOf opcodeIn startOf firstOf offsetOf pageAt openedAt all goodFunction goodFunctions goodOpened goodPage goodPages wellFormed
-shorter-is-not = refl
+pub T-is-well-formed : WellFormed T
+unfolding answered formed
+T-is-well-formed = said-yes T (ap (formed 1) worked)

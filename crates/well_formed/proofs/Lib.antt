@@ -4,4 +4,6 @@ pub mod Checker
 pub mod Agree
 pub mod Answers
 pub mod Tiling
+pub mod Questions
 pub mod Examples
+pub mod Refusals

@@ -1,0 +1,62 @@
+-- A small section for each refusal 1 to 14, S with some bytes changed or cut off: what iteration and lookup tell of it, by computation. Where two
+-- faults meet, the order of checks of document 01, "Finding and iterating", is seen: 2 before 3, 7 before 8, 9 before 10 before 11, 12 before 11,
+-- 13 before 11 and 14, 11 before 14.
+-- Assumes nothing.
+use Prim.Native.Nat.{ℕ, _+_}
+use mathlib.Core.Path.{_≡_, refl}
+use mathlib.Core.Bool.{true, false}
+use mathlib.Core.List.{List, [], _∷_, _++_, map}
+use lib.ListN.{length, take, drop}
+use Rattle.raw.specs.Checked.{Checked, good, refused}
+use Rattle.iterate.specs.declared.Range.{Range}
+use Rattle.iterate.specs.Iterate.{Step, cursor, answer, end}
+use Rattle.lookup.specs.Lookup.{found, nothing, refusal}
+use Rattle.well_formed.proofs.Questions.{_⇒_, Row, row, answered}
+use Rattle.well_formed.proofs.Examples.{S, from, first, ranging}
+
+-- these bytes at an offset of the section
+abbrev put : ℕ → List ℕ → List ℕ → List ℕ
+put at bytes s = take at s ++ bytes ++ drop (at + length bytes) s
+
+-- S so high that its second function starts at 2 ^ 32
+abbrev high : List ℕ
+high = put 32 (0xc0 ∷ 0xff ∷ 0xff ∷ 0xff ∷ []) (put 44 (0xff ∷ 0xff ∷ 0xff ∷ 0xff ∷ []) S)
+
+-- the refusal of a page, or of function i of it, of the first page
+abbrev page : ℕ → Step
+page k = answer (refused k) (cursor 1 0)
+
+abbrev function : ℕ → ℕ → Step
+function k i = answer (refused k) (cursor 0 (i + 1))
+
+abbrev its : Checked Range
+its = ranging 0x1000 0x1100
+
+-- 1, 2 and 3 leave the cursor where it was
+abbrev rows : List Row
+rows =
+    row (take 27 S) false (refused 1) ((cursor 5 7 ⇒ answer (refused 1) (cursor 5 7)) ∷ []) ((0x1000 ⇒ refusal 1 0) ∷ [])
+    ∷ row (put 8 (14 ∷ []) (put 24 (5 ∷ []) S)) false (refused 2) ((cursor 5 7 ⇒ answer (refused 2) (cursor 5 7)) ∷ []) ((0x1000 ⇒ refusal 2 0) ∷ [])
+    ∷ row (put 24 (5 ∷ []) S) false (refused 3) ((cursor 5 7 ⇒ answer (refused 3) (cursor 5 7)) ∷ []) ((0x1000 ⇒ refusal 3 0) ∷ [])
+    ∷ row (put 36 (77 ∷ []) S) false its ((cursor 0 0 ⇒ page 4) ∷ []) ((0x1000 ⇒ refusal 4 2) ∷ [])
+    ∷ row (put 56 (1 ∷ []) S) false its ((cursor 0 0 ⇒ page 5) ∷ []) ((0x1000 ⇒ refusal 5 2) ∷ [])
+    ∷ row (put 56 (4 ∷ []) S) false its ((cursor 0 0 ⇒ page 6) ∷ []) ((0x1000 ⇒ refusal 6 2) ∷ [])
+    ∷ row (take 63 (put 56 (2 ∷ []) S)) false its ((cursor 0 0 ⇒ page 7) ∷ []) ((0x1000 ⇒ refusal 7 2) ∷ [])
+    ∷ row (put 56 (2 ∷ []) S) false its ((cursor 0 0 ⇒ page 8) ∷ []) ((0x1000 ⇒ refusal 8 2) ∷ [])
+    ∷ row (take 67 S) false its ((cursor 0 0 ⇒ page 9) ∷ []) ((0x1000 ⇒ refusal 9 2) ∷ [])
+    ∷ row (take 75 S) false its ((cursor 0 0 ⇒ page 10) ∷ []) ((0x1000 ⇒ refusal 10 2) ∷ [])
+    ∷ row (take 79 S) false its ((cursor 0 0 ⇒ page 11) ∷ (cursor 0 9 ⇒ page 11) ∷ []) ((0x1000 ⇒ found first 4) ∷ (0x1040 ⇒ refusal 11 3) ∷ [])
+    ∷ row (put 68 (0x10 ∷ []) S) false its ((cursor 0 0 ⇒ answer (good (from 0x1010 0x1040 0x01010001)) (cursor 0 1)) ∷ []) ((0x100f ⇒ refusal 12 4) ∷ [])
+    ∷ row (put 62 (0 ∷ []) S) false its ((cursor 0 0 ⇒ end (cursor 1 0)) ∷ []) ((0x1000 ⇒ refusal 12 2) ∷ [])
+    ∷ row (take 79 (put 62 (0 ∷ []) S)) false its ((cursor 0 0 ⇒ page 11) ∷ []) ((0x1000 ⇒ refusal 12 2) ∷ [])
+    ∷ row high false (ranging 0xffffffc0 0xffffffff) ((cursor 0 0 ⇒ function 13 0) ∷ (cursor 0 1 ⇒ function 13 1) ∷ []) ((0xffffffc0 ⇒ refusal 13 4) ∷ [])
+    ∷ row (put 71 (9 ∷ []) high) false (ranging 0xffffffc0 0xffffffff) ((cursor 0 0 ⇒ function 13 0) ∷ []) ((0xffffffc0 ⇒ refusal 13 4) ∷ [])
+    ∷ row (take 79 (put 71 (9 ∷ []) high)) false (ranging 0xffffffc0 0xffffffff) ((cursor 0 0 ⇒ page 11) ∷ []) ((0xffffffc0 ⇒ refusal 13 4) ∷ [])
+    ∷ row (put 75 (2 ∷ []) S) false its ((cursor 0 1 ⇒ function 14 1) ∷ []) ((0x1000 ⇒ found first 4) ∷ (0x1040 ⇒ refusal 14 3) ∷ [])
+    ∷ row (take 79 (put 75 (2 ∷ []) S)) false its ((cursor 0 1 ⇒ page 11) ∷ []) ((0x1040 ⇒ refusal 11 3) ∷ [])
+    ∷ row (put 24 (0 ∷ []) S) true (ranging 0 0) ((cursor 0 0 ⇒ end (cursor 0 0)) ∷ (cursor 3 4 ⇒ end (cursor 0 0)) ∷ []) ((0x1000 ⇒ nothing 0) ∷ [])
+    ∷ []
+
+pub refusals : map answered rows ≡ rows
+unfolding answered
+refusals = refl
