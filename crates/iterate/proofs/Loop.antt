@@ -27,5 +27,5 @@ module _ (s : List ℕ) (l : Lists) (c : Cursor) (p i : ℕ) (inv : nextOf s l c
       pub stops-answered : (x : Step) (a : Checked Function) → i < pg .«functions_len» → a ≡ functionAt s l p pg i → x ≡ answer a (cursor p (i + 1)) → x ≡ nextOf s l c
       stops-answered x a t f o = o ∙ ap (λ (b : Checked Function). answer b (cursor p (i + 1))) f ∙ sym (inv ∙ page-function s l p i pg h (sym e ∙ ap pageTold q) t)
 
-      pub goes-on : pg .«functions_len» ≤ i → nextOf s l c ≡ nextOf s l (cursor (p + 1) 0)
-      goes-on t = inv ∙ page-past s l p i pg h (sym e ∙ ap pageTold q) t
+      pub goes-on : pg .«functions_len» ≤ i → (next : ℕ) → p + 1 ≡ next → nextOf s l c ≡ nextOf s l (cursor next 0)
+      goes-on t next n = inv ∙ page-past s l p i pg h (sym e ∙ ap pageTold q) t ∙ ap (λ (m : ℕ). nextOf s l (cursor m 0)) n

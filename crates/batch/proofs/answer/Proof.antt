@@ -25,10 +25,10 @@ seam-requires : tie.Need-seam-requires
 seam-requires c κs = let p = c .before .before .before .before .before .before .before .before .before .before .before .before .before .pre in (p .globals, p .edge)
 
 returns-2 : tie.Need-returns-2
-returns-2 c = let p = c .before .before .before .before .before .before .before .before .before .before .before .before .before .before .pre in c .refused2 .ensures ∙ ap numbersOf (tells _ _ _ (c .before .before .before .before .before .before .before .if1 .left) (refused 14) (no-opcode _ _ _ _ _ (c .before .before .before .start-at .ensures .1) (p .kind) (c .before .if2 .taken) ∙ goes-to _ _ _ _ (entry-is _ _ (p .kind) (c .before .before .before .before .before .before .before .before .before .before .before .before .before .before .args .spot .at - 1) _ (omega (arith, p .within, c .before .before .before .before .before .before .before .if1 .left)) (c .before .before .before .before .before .word-at .ensures)) (omega (arith, p .low)) _ (next-is _ _ _ _ (c .before .before .before .before .before .before .before .if1 .left) (c .before .before .before .start-at .ensures .0))))
+returns-2 c = let p = c .before .before .before .before .before .before .before .before .before .before .before .before .before .before .pre in c .refused2 .ensures ∙ ap numbersOf (tells _ _ _ (c .before .before .before .before .before .before .before .if1 .left) (refused 14) (no-opcode _ _ _ _ _ (c .before .before .before .start-at .ensures .1) (p .kind) (omega (arith, c .before .if2 .taken)) ∙ goes-to _ _ _ _ (entry-is _ _ (p .kind) (c .before .before .before .before .before .before .before .before .before .before .before .before .before .before .args .spot .at - 1) _ (omega (arith, p .within, c .before .before .before .before .before .before .before .if1 .left)) (c .before .before .before .before .before .word-at .ensures)) (omega (arith, p .low)) _ (next-is _ _ _ _ (c .before .before .before .before .before .before .before .if1 .left) (c .before .before .before .start-at .ensures .0))))
 
 add-place : tie.Need-add-place
-add-place c = let p = c .before .before .before .before .before .before .before .before .before .before .before .before .before .before .pre in omega (arith, opcode-inside _ _ (p .inside) _ _ (c .before .if2 .left) (c .seam .ensures) .1, p .inside .below, p .inside .globals, c .before .before .before .before .before .before .before .before .before .before .before .before .before .before .good .0 .1)
+add-place c = let p = c .before .before .before .before .before .before .before .before .before .before .before .before .before .before .pre in omega (arith, opcode-inside _ _ (p .inside) _ _ (omega (arith, c .before .if2 .left)) (c .seam .ensures) .1, p .inside .below, p .inside .globals, c .before .before .before .before .before .before .before .before .before .before .before .before .before .before .good .0 .1)
 
 sub-place : tie.Need-sub-place
 sub-place c = let p = c .before .before .before .before .before .before .before .before .before .before .before .before .before .before .pre in omega (arith, opcode-inside _ _ (p .inside) _ _ (c .before .if2 .left) (c .seam .ensures) .0, p .globals)

@@ -20,7 +20,7 @@ loop-holds : tie.Need-loop-holds Inv-loop μ-loop
 loop-holds c = (search needs, refl)
 
 returns : tie.Need-returns Inv-loop μ-loop
-returns c = stops-refused _ _ _ _ _ (c .before .before .before .before .before .loop .inv .1) (c .before .before .before .before .loop-test .taken) _ (c .before .before .before .open-at .ensures) _ (c .before .error .given .1)
+returns c = stops-refused _ _ _ _ _ (c .before .before .before .before .before .loop .inv .1) (omega (arith, c .before .before .before .before .loop-test .taken)) _ (c .before .before .before .open-at .ensures) _ (c .before .error .given .1)
 
 function-at-requires : tie.Need-function-at-requires Inv-loop μ-loop
 function-at-requires c κs = (omega (arith, c .before .before .before .before .before .loop-test .taken), sym (c .before .before .before .before .open-at .ensures) ∙ ap pageTold (c .before .before .pg .given .1))
@@ -30,7 +30,7 @@ returns-2 c =
     stops-answered _ _ _ _ _ (c .before .before .before .before .before .before .before .before .loop .inv .1) (c .before .before .before .before .before .before .before .loop-test .taken) _ (c .before .before .before .before .before .before .open-at .ensures) _ (c .before .before .before .before .pg .given .1) _ _ (c .before .before .if1 .taken) (c .before .function-at .ensures) (c .answered .ensures)
 
 loop-again : tie.Need-loop-again Inv-loop μ-loop
-loop-again c = (omega arith, goes-on _ _ _ _ _ (c .before .before .before .before .before .before .loop .inv .1) (c .before .before .before .before .before .loop-test .taken) _ (c .before .before .before .before .open-at .ensures) _ (c .before .before .pg .given .1) (c .if1 .left))
+loop-again c = (omega arith, goes-on _ _ _ _ _ (c .before .before .before .before .before .before .loop .inv .1) (c .before .before .before .before .before .loop-test .taken) _ (c .before .before .before .before .open-at .ensures) _ (c .before .before .pg .given .1) (c .if1 .left) _ (omega arith))
 
 returns-3 : tie.Need-returns-3 Inv-loop μ-loop
 returns-3 c = stops-at-end _ _ _ _ _ (c .before .before .loop .inv .1) _ (c .before .loop-test .left) (c .end-cursor .ensures)

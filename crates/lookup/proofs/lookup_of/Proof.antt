@@ -17,7 +17,7 @@ returns c = looks-before _ _ _ (c .before .before .inside .ensures) _ _ (c .befo
 
 returns-2 : tie.Need-returns-2
 unfolding pagesOf
-returns-2 c = looks-past _ _ _ (c .before .before .before .inside .ensures) _ _ (c .before .before .search-pages .ensures) (c .before .if1 .left) (c .if2 .taken)
+returns-2 c = looks-past _ _ _ (c .before .before .before .inside .ensures) _ _ (c .before .before .search-pages .ensures) (c .before .if1 .left) (omega arith)
 
 cast-at-page : tie.Need-cast-at-page
 unfolding pagesOf

@@ -10,10 +10,10 @@ use Rattle.lookup.proofs.resolve.Statement.{statement}
 use Rattle.lookup.proofs.resolve.Tie as tie
 
 returns : tie.Need-returns
-returns c = ap good (c .four .ensures) ∙ global _ _ _ _ (c .before .if1 .taken)
+returns c = ap good (c .four .ensures) ∙ global _ _ _ _ (omega arith)
 
 returns-2 : tie.Need-returns-2
-returns-2 c = not-there _ _ _ _ (c .before .before .if1 .left) (sym (c .before .has-local-opcodes .ensures) ∙ not-true _ (c .if2 .taken))
+returns-2 c = not-there _ _ _ _ (omega arith) (sym (c .before .has-local-opcodes .ensures) ∙ not-true _ (c .if2 .taken))
 
 returns-3 : tie.Need-returns-3
 returns-3 c = past-list _ _ _ _ (c .before .before .before .if1 .left) (sym (c .before .before .has-local-opcodes .ensures) ∙ not-false _ (c .before .if2 .left)) (c .if3 .taken)
