@@ -27,6 +27,7 @@ use Rattle.raw.proofs.Opens.{functions-granted}
 use Rattle.entries.specs.declared.Function.{Function}
 use Rattle.entries.specs.Entries.{functionsOf}
 use Rattle.entries.specs.Section.{firstOf, offsetOf, pageAt}
+use Rattle.entries.proofs.Straight.{granted-again}
 use Rattle.lookup.specs.Lookup.{Looked, refusal, telling, fromSpot, fromPage, atPage, fromPages, lookupOf, lookupIn, lookupOn, probesOf}
 use Rattle.lookup.proofs.Cases.{counted, few-pages}
 
@@ -133,4 +134,4 @@ module _ (s : List ℕ) (h : length s < 2 ^ 64) where
 
   pub few-in : (l : Lists) (pc : ℕ) → probesOf (lookupIn s l pc) ≤ 128
   unfolding lookupIn
-  few-in l pc = few (grantOf s l) pc (λ m e. rw (← granted s l m e .0) at e)
+  few-in l pc = few (grantOf s l) pc (granted-again s l)
