@@ -1,14 +1,14 @@
 -- The functions of a page, case by case, on plain values.
 -- Assumes nothing.
 use Prim.Native.Nat.{ℕ, suc, _+_, _-_, _*_, _/_, _^_, _≤_, _<_}
-use mathlib.Core.Path.{_≡_, ap, sym, _∙_}
+use mathlib.Core.Path.{_≡_, refl, ap, sym, _∙_}
 use mathlib.Core.List.{List, []}
-use mathlib.Core.Bool.{Bool, true, false, not, _||_}
+use mathlib.Core.Bool.{Bool, true, false, cond, not, _||_}
 use native.Mathlib.Omega.{arith}
-use borrow.Author.Tests.{lt-ltb, le-ltb, not-true, not-false}
+use borrow.Author.Tests.{lt-ltb, le-ltb, le-leb, not-true, not-false}
 use lib.ListN.{length}
-use Rattle.reader.specs.Reader.{value, outside, grantedOf, readOf, wordAt, partOf}
-use Rattle.reader.proofs.Laws.{was-word, was-granted, was-refused}
+use Rattle.reader.specs.Reader.{value, outside, grantedOf, readOf, wordAt, partOf, Slice, slice, partAt, partIn}
+use Rattle.reader.proofs.Laws.{fits, was-word, was-granted, was-refused}
 use Rattle.search.specs.declared.Layout.{Layout}
 use Rattle.search.specs.Search.{sizeOf, keyOf}
 use Rattle.raw.specs.declared.Kind.{Kind}
@@ -18,7 +18,7 @@ use Rattle.raw.specs.Raw.{layout, localsGranted}
 use Rattle.raw.specs.Checked.{Checked, good, refused, numberOf}
 use Rattle.entries.specs.declared.Function.{Function}
 use Rattle.entries.specs.declared.Resolved.{Resolved}
-use Rattle.entries.specs.Entries.{functionsOf, localsOf, functionOf, fourOf, isGlobal, opcodePart, startIn, endIn, resolveOf, opcodeIn, functionIn, opcodeTold}
+use Rattle.entries.specs.Entries.{functionsOf, localsOf, functionOf, fourOf, fourIn, isGlobal, opcodePart, opcodePartIn, startIn, endIn, resolveOf, opcodeIn, functionIn, opcodeTold}
 
 -- the list's bytes are few
 pub fits-size : (l : Layout) (k n : ℕ) → k ≡ sizeOf l → n < 2 ^ 32 → k * n < 2 ^ 64
@@ -26,10 +26,10 @@ fits-size Layout.Pages k n e h = rw e (omega arith)
 fits-size Layout.Regular k n e h = rw e (omega arith)
 fits-size Layout.Compressed k n e h = rw e (omega arith)
 
-pub functions-are : (page : List ℕ) (pg : Page) (r : List ℕ) (l : Layout) (k : ℕ) → l ≡ layout (pg .kind) → k ≡ sizeOf l
-    → r ≡ partOf page (pg .«functions_offset») (k * pg .«functions_len») → r ≡ functionsOf page pg
+pub functions-are : (page : Slice) (pg : Page) (r : Slice) (l : Layout) (k : ℕ) → l ≡ layout (pg .kind) → k ≡ sizeOf l
+    → r ≡ partIn page (pg .«functions_offset») (k * pg .«functions_len») → r ≡ partAt page (pg .«functions_offset») (functionsOf (page .bytes) pg)
 unfolding functionsOf
-functions-are page pg r l k el ek e = e ∙ ap (λ (m : ℕ). partOf page (pg .«functions_offset») (m * pg .«functions_len»)) (ek ∙ ap sizeOf el)
+functions-are page pg r l k el ek e = e ∙ ap (λ (m : ℕ). partIn page (pg .«functions_offset») (m * pg .«functions_len»)) (ek ∙ ap sizeOf el)
 
 -- four bytes that are there, or not
 module _ (s : List ℕ) (o : ℕ) where
@@ -40,6 +40,34 @@ module _ (s : List ℕ) (o : ℕ) where
   pub four-not : grantedOf 4 s o ≡ false → [] ≡ fourOf s o
   unfolding fourOf
   four-not t = simp t
+
+-- with their place
+module _ (x : Slice) (o : ℕ) where
+  pub four-part : grantedOf 4 (x .bytes) o ≡ true → partIn x o 4 ≡ fourIn x o
+  unfolding fourOf
+  four-part t = simp (le-leb o (length (x .bytes)) (omega (arith, fits 4 (x .bytes) o t)), t)
+
+  pub four-none : grantedOf 4 (x .bytes) o ≡ false → slice (x .start) [] ≡ fourIn x o
+  unfolding fourOf
+  four-none t = simp t
+
+module _ (globals locals : Slice) (index : ℕ) where
+  pub part-global : index < length (globals .bytes) / 4 → fourIn globals (4 * index) ≡ opcodePartIn globals locals index
+  unfolding opcodePartIn isGlobal
+  part-global h = simp (lt-ltb _ _ h)
+
+  pub part-local : length (globals .bytes) / 4 ≤ index → (o : ℕ) → o ≡ 4 * (index - length (globals .bytes) / 4) → fourIn locals o ≡ opcodePartIn globals locals index
+  unfolding opcodePartIn isGlobal
+  part-local h o e = rw e (simp (le-ltb _ _ h))
+
+  -- its bytes
+  pub part-bytes : opcodePartIn globals locals index .bytes ≡ opcodePart (globals .bytes) (locals .bytes) index
+  unfolding opcodePartIn opcodePart
+  part-bytes = by (isGlobal (globals .bytes) index) _ _
+    where
+      by : (b : Bool) (x y : Slice) → cond b x y .bytes ≡ cond b (x .bytes) (y .bytes)
+      by true x y = refl
+      by false x y = refl
 
 module _ (globals : List ℕ) (index : ℕ) where
   pub readable : (there : Bool) → isGlobal globals index ≡ true → false ≡ not (isGlobal globals index || there)

@@ -5,7 +5,7 @@ use mathlib.Core.List.{List, []}
 use mathlib.Core.Bool.{Bool, cond, _||_}
 use lib.ListN.{length}
 use lib.Dec.{ltb}
-use Rattle.reader.specs.Reader.{grantedOf, wordAt, partOf}
+use Rattle.reader.specs.Reader.{grantedOf, wordAt, partOf, Slice, slice, further}
 use Rattle.search.specs.Search.{sizeOf, keyOf}
 use Rattle.raw.specs.declared.Kind.{Kind}
 use Rattle.raw.specs.declared.Page.{Page}
@@ -32,6 +32,14 @@ isGlobal globals index = ltb index (length globals / 4)
 
 unfoldable pub opcodePart : List ℕ → List ℕ → ℕ → List ℕ
 opcodePart globals locals index = cond (isGlobal globals index) (fourOf globals (4 * index)) (fourOf locals (4 * (index - length globals / 4)))
+
+-- the same with their place: a part of the one list or of the other; none of it stands at the list's start
+abbrev pub fourIn : Slice → ℕ → Slice
+fourIn x o = slice (cond (grantedOf 4 (x .bytes) o) (further (x .start) o) (x .start)) (fourOf (x .bytes) o)
+
+unfoldable pub opcodePartIn : Slice → Slice → ℕ → Slice
+opcodePartIn globals locals index =
+    cond (isGlobal (globals .bytes) index) (fourIn globals (4 * index)) (fourIn locals (4 * (index - length (globals .bytes) / 4)))
 
 -- over the list of functions: start and end of function i, whole numbers
 module _ (functions : List ℕ) (pg : Page) where

@@ -1,10 +1,11 @@
 // The functions of a page.
 ghost use mathlib.Core.Path.{_≡_};
 ghost use mathlib.Core.Bool.{not, _||_};
+ghost use Rattle.reader.specs.Reader.{sliceTold, partAt};
 ghost use Rattle.raw.specs.Raw.{layout, localsGranted, pageTold};
 ghost use Rattle.entries.specs.Section.{openedAt};
 ghost use Rattle.entries.specs.Straight.{sourceFrom};
-ghost use Rattle.entries.specs.Entries.{functionsOf, localsOf, fourOf, opcodePart, isGlobal, startIn, endIn, resolveOf, opcodeIn, functionIn, functionOf, functionTold, opcodeTold};
+ghost use Rattle.entries.specs.Entries.{functionsOf, localsOf, fourIn, opcodePartIn, isGlobal, startIn, endIn, resolveOf, opcodeIn, functionIn, functionOf, functionTold, opcodeTold};
 use raw::Error;
 use raw::Kind;
 use raw::Lists;
@@ -81,7 +82,7 @@ pub fn layout_of(kind: Kind) -> Layout
 
 // The bytes of the page's functions.
 pub fn functions(page: &[u8], pg: Page) -> &[u8]
-    ensures { λ r. ⌜ now r ≡ functionsOf (now (page .entry)) pg ⌝ }
+    ensures { λ r. ⌜ sliceTold r ≡ partAt (sliceTold (page .entry)) (pg .«functions_offset») (functionsOf (now (page .entry)) pg) ⌝ }
 {
     let kind = pg.kind;
     let at = pg.functions_offset;
@@ -95,7 +96,7 @@ pub fn functions(page: &[u8], pg: Page) -> &[u8]
 
 // The bytes of the page's local opcodes.
 pub fn local_opcodes(page: &[u8], pg: Page) -> &[u8]
-    ensures { λ r. ⌜ now r ≡ localsOf (now (page .entry)) pg ⌝ }
+    ensures { λ r. ⌜ sliceTold r ≡ partAt (sliceTold (page .entry)) (pg .«local_opcodes_offset») (localsOf (now (page .entry)) pg) ⌝ }
 {
     let at = pg.local_opcodes_offset;
     let n = pg.local_opcodes_len;
@@ -104,7 +105,7 @@ pub fn local_opcodes(page: &[u8], pg: Page) -> &[u8]
 
 // The four bytes at the offset, or none.
 fn four(s: &[u8], at: usize) -> &[u8]
-    ensures { λ r. ⌜ now r ≡ fourOf (now (s .entry)) at ⌝ }
+    ensures { λ r. ⌜ sliceTold r ≡ fourIn (sliceTold (s .entry)) at ⌝ }
 {
     if reader::is_granted(s, at, 4) {
         reader::part(s, at, 4)
@@ -121,7 +122,7 @@ pub fn is_global(globals: &[u8], index: u32) -> bool
 
 // The four bytes of the opcode that the index names, a part of the one palette or of the other; an empty part where it names none.
 pub fn opcode_part<'a>(globals: &'a [u8], locals: &'a [u8], index: u32) -> &'a [u8]
-    ensures { λ r. ⌜ now r ≡ opcodePart (now (globals .entry)) (now (locals .entry)) index ⌝ }
+    ensures { λ r. ⌜ sliceTold r ≡ opcodePartIn (sliceTold (globals .entry)) (sliceTold (locals .entry)) index ⌝ }
 {
     let i = index as usize;
     let n = globals.len() / 4;

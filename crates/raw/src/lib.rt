@@ -2,7 +2,7 @@
 ghost use mathlib.Core.Path.{_≡_};
 ghost use Prim.Native.Nat.{_+_, _*_, _≤_, _<_};
 ghost use lib.ListN.{length, drop};
-ghost use Rattle.reader.specs.Reader.{grantedOf};
+ghost use Rattle.reader.specs.Reader.{grantedOf, sliceTold, partAt};
 ghost use Rattle.raw.specs.Checked.{numberOf};
 ghost use Rattle.raw.specs.Raw.{grantOf, headerOf, parseOf, globalsOf, pagesOf, firstIn, offsetIn, regularOf, compressedOf, byKind, pageOf, localsGranted, openOf, listsTold, pageTold};
 use reader::Read32;
@@ -127,7 +127,7 @@ pub fn parse(s: &[u8]) -> Parsed
 
 // The bytes of the global opcodes.
 pub fn global_opcodes(s: &[u8], lists: Lists) -> &[u8]
-    ensures { λ r. ⌜ now r ≡ globalsOf (now (s .entry)) lists ⌝ }
+    ensures { λ r. ⌜ sliceTold r ≡ partAt (sliceTold (s .entry)) (lists .«global_opcodes_offset») (globalsOf (now (s .entry)) lists) ⌝ }
 {
     let at = lists.global_opcodes_offset;
     let n = lists.global_opcodes_len;
@@ -136,7 +136,7 @@ pub fn global_opcodes(s: &[u8], lists: Lists) -> &[u8]
 
 // The bytes of the page entries.
 pub fn pages(s: &[u8], lists: Lists) -> &[u8]
-    ensures { λ r. ⌜ now r ≡ pagesOf (now (s .entry)) lists ⌝ }
+    ensures { λ r. ⌜ sliceTold r ≡ partAt (sliceTold (s .entry)) (lists .«pages_offset») (pagesOf (now (s .entry)) lists) ⌝ }
 {
     let at = lists.pages_offset;
     let n = lists.pages_len;

@@ -10,12 +10,17 @@ use native.Mathlib.Omega.{arith}
 use native.Mathlib.Decide.{decLe}
 use borrow.Author.Tests.{le-leb, lt-leb, leb-true, leb-false}
 use native.Mathlib.Decide.{decLt}
+use lib.Dec.{leb}
 use lib.ListN.{length, getD, take, drop, length-drop, length-take, drop-of-length-le, List·getD-eq-default}
 use lib.Seq.{getD-drop, getD-take, take-all, take-nil, length-take-le}
-use Rattle.reader.specs.Reader.{value, outside, numberAt, grantedOf, readOf, orZero, wordAt, partOf, Bytes}
+use Rattle.reader.specs.Reader.{value, outside, numberAt, grantedOf, readOf, orZero, wordAt, partOf, Slice, slice, further, partIn, Bytes}
 
 regroup : (a x p y : ℕ) → a + 256 * (x + p * y) ≡ a + 256 * x + p * 256 * y
 regroup a x p y = omega (arith, ap (λ (k : ℕ). k * y) (mul-comm p 256) ∙ mul-assoc 256 p y)
+
+-- slices that are one have the same bytes
+pub bytes-of : {x y : Slice} → x ≡ y → x .bytes ≡ y .bytes
+bytes-of e = ap (λ (x : Slice). x .bytes) e
 
 -- a number of m + n bytes is its m low bytes and, above them, its n high bytes
 pub split : (m n : ℕ) (s : List ℕ) (o : ℕ) → numberAt (m + n) s o ≡ numberAt m s o + 256 ^ m * numberAt n s (o + m)
@@ -126,6 +131,10 @@ module _ (s : List ℕ) (o n : ℕ) where
   pub lies-inside : take (o + n - o) (drop o s) ≡ partOf s o n
   unfolding partOf
   lies-inside = ap (λ (k : ℕ). take k (drop o s)) (add-sub-cancel-left o n)
+
+  -- a part with its place
+  pub placed : (p q : ℕ × ℕ) (t : List ℕ) → q ≡ cond (leb o (length s)) (further p o) p → t ≡ partOf s o n → slice q t ≡ partIn (slice p s) o n
+  placed p q t e f = cc
 
   pub length-part : o + n ≤ length s → length (partOf s o n) ≡ n
   unfolding partOf

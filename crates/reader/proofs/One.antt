@@ -1,9 +1,14 @@
 -- Two answers that conform to a contract are one answer: where it is `r ≡ t`, at once; where it is `told r ≡ t`, since what was told
 -- gives the answer back.
 -- Assumes nothing.
-use mathlib.Core.Path.{_≡_, refl, sym, _∙_}
+use Prim.Native.Nat.{ℕ}
+use mathlib.Core.Path.{_≡_, refl, ap, sym, _∙_}
+use mathlib.Core.List.{List, [], _∷_}
 use mathlib.Mathlib.Logic.Function.Defs.{LeftInverse, LeftInverse·injective}
-use Rattle.reader.specs.Reader.{Told, value, outside, told16, told32, told64}
+use lib.ListN.{length}
+use denote.Ref.{RefT, now}
+use denote.Slice.{sliceVal, slice-vals}
+use Rattle.reader.specs.Reader.{Told, value, outside, told16, told32, told64, Slice, sliceTold}
 use Rattle.reader.specs.declared.Read16.{Read16}
 use Rattle.reader.specs.declared.Read32.{Read32}
 use Rattle.reader.specs.declared.Read64.{Read64}
@@ -44,3 +49,8 @@ module _ (t : Told) where
 
   pub one-read64 : (x y : Read64) → told64 x ≡ t → told64 y ≡ t → x ≡ y
   one-read64 x y p q = LeftInverse·injective back64 told64 way64 x y (p ∙ sym q)
+
+-- two slices: the same value in the machine, a pointer and a count, and the same bytes
+pub one-slice : (t : Slice) (x y : RefT (List ℕ)) → sliceTold x ≡ t → sliceTold y ≡ t → (slice-vals x ≡ slice-vals y) × (now x ≡ now y)
+one-slice t x y p q =
+    (ap (λ (z : Slice). sliceVal (z .start) (length (z .bytes)) ∷ []) (p ∙ sym q), ap (λ (z : Slice). z .bytes) (p ∙ sym q))

@@ -5,6 +5,7 @@ use mathlib.Core.List.{List}
 use mathlib.Core.Bool.{Bool, cond}
 use lib.ListN.{length, getD, take, drop}
 use lib.Dec.{leb}
+use denote.Ref.{RefT, ptr, now}
 use Rattle.reader.specs.declared.Read16.{Read16}
 use Rattle.reader.specs.declared.Read32.{Read32}
 use Rattle.reader.specs.declared.Read64.{Read64}
@@ -49,6 +50,28 @@ wordAt n s o = orZero (readOf n s o)
 -- the part of n bytes that starts at o, or what there is of it
 unfoldable pub partOf : List ℕ → ℕ → ℕ → List ℕ
 partOf s o n = take n (drop o s)
+
+-- a slice: where it starts in memory, by the block and the place in it, and its bytes
+pub record Slice : Type 0 where
+  pub start : ℕ × ℕ
+  pub bytes : List ℕ
+
+abbrev pub slice : ℕ × ℕ → List ℕ → Slice
+slice p s = record { start = p; bytes = s }
+
+abbrev pub sliceTold : RefT (List ℕ) → Slice
+sliceTold r = slice (ptr r) (now r)
+
+-- so many bytes further on
+abbrev pub further : ℕ × ℕ → ℕ → ℕ × ℕ
+further p n = (p .0, n + p .1)
+
+-- the part of a slice that starts at o and has these bytes; where o lies past the end it is empty, and stands at the slice's start
+abbrev pub partAt : Slice → ℕ → List ℕ → Slice
+partAt x o s = slice (cond (leb o (length (x .bytes))) (further (x .start) o) (x .start)) s
+
+abbrev pub partIn : Slice → ℕ → ℕ → Slice
+partIn x o n = partAt x o (partOf (x .bytes) o n)
 
 -- the numbers of the list are bytes
 abbrev pub Bytes : List ℕ → Type 0

@@ -3,7 +3,7 @@ ghost use mathlib.Core.Path.{_≡_};
 ghost use Prim.Native.Nat.{_+_, _≤_, _<_};
 ghost use lib.ListN.{length};
 ghost use mathlib.Core.List.{[], _∷_};
-ghost use Rattle.reader.specs.Reader.{numberAt, grantedOf, readOf, wordAt, partOf, told16, told32, told64};
+ghost use Rattle.reader.specs.Reader.{numberAt, grantedOf, readOf, wordAt, sliceTold, partIn, told16, told32, told64};
 
 pub enum Read16 {
     Value(u16),
@@ -91,7 +91,7 @@ pub fn from_le_bytes(a: u8, b: u8, c: u8, d: u8) -> u32
 
 // The n bytes from the offset on, or what there is of them.
 pub fn part(s: &[u8], offset: usize, n: usize) -> &[u8]
-    ensures { λ r. ⌜ now r ≡ partOf (now (s .entry)) offset n ⌝ }
+    ensures { λ r. ⌜ sliceTold r ≡ partIn (sliceTold (s .entry)) offset n ⌝ }
 {
     if s.len() < offset {
         return &s[..0];

@@ -10,6 +10,7 @@ use Rattle.raw.proofs.Grants.{parsed}
 use Rattle.lookup.specs.Lookup.{lookupOn}
 use Rattle.batch.specs.Batch.{standing}
 use Rattle.batch.proofs.Batches.{none-yet, four-on, length-standing}
+use Rattle.reader.proofs.Laws.{bytes-of}
 use Rattle.batch.proofs.by_fours.Statement.{statement}
 use Rattle.batch.proofs.by_fours.Tie as tie
 
@@ -38,7 +39,7 @@ shared-slice-read-group-4 : tie.Need-shared-slice-read-group-4 Inv-loop μ-loop
 shared-slice-read-group-4 c = omega (arith, c .before .before .before .before .before .before .before .before .before .before .pre .1, c .before .before .before .before .loop-test .taken, c .before .before .before .before .before .loop .inv .0)
 
 group-requires : tie.Need-group-requires Inv-loop μ-loop
-group-requires c κs = (c .before .before .before .before .before .before .before .pages .ensures, parsed _ _ (c .before .before .before .before .before .before .before .before .before .before .before .pre .0), (search needs), omega (arith, ap (λ (l : List ℕ). length l) (c .before .before .before .before .before .before .loop .inv .1) ∙ length-standing _ _ _ _ (omega (arith, c .before .before .before .before .before .before .before .before .before .before .before .pre .1, c .before .before .before .before .before .before .loop .inv .0)) (omega (arith, c .before .before .before .before .before .before .before .before .before .before .before .pre .2, c .before .before .before .before .before .before .loop .inv .0)), c .before .before .before .before .before .loop-test .taken, c .before .before .before .before .before .before .loop .inv .0, c .before .before .before .before .before .before .before .before .before .before .before .pre .2))
+group-requires c κs = (bytes-of (c .before .before .before .before .before .before .before .pages .ensures), parsed _ _ (c .before .before .before .before .before .before .before .before .before .before .before .pre .0), (search needs), omega (arith, ap (λ (l : List ℕ). length l) (c .before .before .before .before .before .before .loop .inv .1) ∙ length-standing _ _ _ _ (omega (arith, c .before .before .before .before .before .before .before .before .before .before .before .pre .1, c .before .before .before .before .before .before .loop .inv .0)) (omega (arith, c .before .before .before .before .before .before .before .before .before .before .before .pre .2, c .before .before .before .before .before .before .loop .inv .0)), c .before .before .before .before .before .loop-test .taken, c .before .before .before .before .before .before .loop .inv .0, c .before .before .before .before .before .before .before .before .before .before .before .pre .2))
 
 add-k : tie.Need-add-k Inv-loop μ-loop
 add-k c = omega (arith, c .before .before .before .before .before .before .before .before .before .before .before .before .before .before .good .1 .1 .1 .0 .1, c .before .before .before .before .before .before .before .before .loop-test .taken, c .before .before .before .before .before .before .before .before .before .loop .inv .0)

@@ -1,18 +1,17 @@
 -- `entries::opcode_part` meets its contract: of the one palette or of the other, by the index.
 -- Assumes nothing.
 use borrow.Author.Needs.{needs}
-use mathlib.Core.Path.{ap, _∙_}
+use mathlib.Core.Path.{_∙_}
 use native.Mathlib.Omega.{arith}
-use Rattle.entries.specs.Entries.{fourOf}
-use Rattle.entries.proofs.Cases.{names-global, names-local}
+use Rattle.entries.proofs.Cases.{part-global, part-local}
 use Rattle.entries.proofs.opcode_part.Statement.{statement}
 use Rattle.entries.proofs.opcode_part.Tie as tie
 
 returns : tie.Need-returns
-returns c = c .four .ensures ∙ names-global _ _ _ (c .before .if1 .taken)
+returns c = c .four .ensures ∙ part-global _ _ _ (c .before .if1 .taken)
 
 returns-2 : tie.Need-returns-2
-returns-2 c = c .four2 .ensures ∙ ap (fourOf _) (omega arith) ∙ names-local _ _ _ (c .before .if1 .left)
+returns-2 c = c .four2 .ensures ∙ part-local _ _ _ (c .before .if1 .left) _ (omega arith)
 
 pub opcode-part-spec : {M : Type 1} → statement M
 opcode-part-spec =

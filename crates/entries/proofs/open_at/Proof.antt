@@ -2,11 +2,12 @@
 -- Assumes nothing.
 use borrow.Author.Needs.{needs}
 use Rattle.entries.proofs.Places.{opens-there}
+use Rattle.reader.proofs.Laws.{bytes-of}
 use Rattle.entries.proofs.open_at.Statement.{statement}
 use Rattle.entries.proofs.open_at.Tie as tie
 
 returns : tie.Need-returns
-returns c = opens-there _ _ _ _ (c .before .before .before .pages .ensures) _ _ _ (c .before .before .first-address .ensures) (c .before .page-offset .ensures) (c .open-page .ensures)
+returns c = opens-there _ _ _ _ (bytes-of (c .before .before .before .pages .ensures)) _ _ _ (c .before .before .first-address .ensures) (c .before .page-offset .ensures) (c .open-page .ensures)
 
 pub open-at-spec : {M : Type 1} → statement M
 open-at-spec =

@@ -2,6 +2,7 @@
 -- Assumes nothing.
 use borrow.Author.Needs.{needs}
 use Rattle.iterate.proofs.Cases.{no-pages, some-pages}
+use Rattle.reader.proofs.Laws.{bytes-of}
 use Rattle.iterate.proofs.range_of.Statement.{statement}
 use Rattle.iterate.proofs.range_of.Tie as tie
 
@@ -9,7 +10,7 @@ returns : tie.Need-returns
 returns c = no-pages _ _ (c .if1 .taken)
 
 returns-2 : tie.Need-returns-2
-returns-2 c = some-pages _ _ (c .before .before .if1 .left) _ _ _ (c .before .before .before .pages .ensures) (c .before .first-address .ensures) (c .first-address2 .ensures)
+returns-2 c = some-pages _ _ (c .before .before .if1 .left) _ _ _ (bytes-of (c .before .before .before .pages .ensures)) (c .before .first-address .ensures) (c .first-address2 .ensures)
 
 pub range-of-spec : {M : Type 1} → statement M
 range-of-spec =

@@ -2,20 +2,21 @@
 -- Assumes nothing.
 use borrow.Author.Needs.{needs}
 use Rattle.well_formed.proofs.Cases.{page-refused, starts-in, page-opens}
+use Rattle.reader.proofs.Laws.{bytes-of}
 use Rattle.well_formed.proofs.is_good_page.Statement.{statement}
 use Rattle.well_formed.proofs.is_good_page.Tie as tie
 
 returns : tie.Need-returns
-returns c = page-refused _ _ _ _ (c .before .before .before .before .before .before .pages .ensures) _ _ (c .before .before .before .before .before .first-address .ensures) (c .before .before .before .page-offset .ensures) _ (c .before .before .open-page .ensures) _ (c .enum-told .given .1)
+returns c = page-refused _ _ _ _ (bytes-of (c .before .before .before .before .before .before .pages .ensures)) _ _ (c .before .before .before .before .before .first-address .ensures) (c .before .before .before .page-offset .ensures) _ (c .before .before .open-page .ensures) _ (c .enum-told .given .1)
 
 sub-is-good-opened : tie.Need-sub-is-good-opened
-sub-is-good-opened c = let h = starts-in _ _ _ _ (c .before .before .before .before .before .before .before .before .pages .ensures) _ _ (c .before .before .before .before .before .before .before .first-address .ensures) (c .before .before .before .before .before .page-offset .ensures) _ (c .before .before .before .before .open-page .ensures) _ (c .before .before .pg .given .1) in search needs
+sub-is-good-opened c = let h = starts-in _ _ _ _ (bytes-of (c .before .before .before .before .before .before .before .before .pages .ensures)) _ _ (c .before .before .before .before .before .before .before .first-address .ensures) (c .before .before .before .before .before .page-offset .ensures) _ (c .before .before .before .before .open-page .ensures) _ (c .before .before .pg .given .1) in search needs
 
 part-is-good-opened-start : tie.Need-part-is-good-opened-start
-part-is-good-opened-start c = let h = starts-in _ _ _ _ (c .before .before .before .before .before .before .before .before .pages .ensures) _ _ (c .before .before .before .before .before .before .before .first-address .ensures) (c .before .before .before .before .before .page-offset .ensures) _ (c .before .before .before .before .open-page .ensures) _ (c .before .before .pg .given .1) in search needs
+part-is-good-opened-start c = let h = starts-in _ _ _ _ (bytes-of (c .before .before .before .before .before .before .before .before .pages .ensures)) _ _ (c .before .before .before .before .before .before .before .first-address .ensures) (c .before .before .before .before .before .page-offset .ensures) _ (c .before .before .before .before .open-page .ensures) _ (c .before .before .pg .given .1) in search needs
 
 returns-2 : tie.Need-returns-2
-returns-2 c = page-opens _ _ _ _ (c .before .before .before .before .before .before .before .before .before .before .pages .ensures) _ _ (c .before .before .before .before .before .before .before .before .before .first-address .ensures) (c .before .before .before .before .before .before .before .page-offset .ensures) _ (c .before .before .before .before .before .before .open-page .ensures) _ (c .before .before .before .before .pg .given .1) _ _ _ (c .before .before .global-opcodes .ensures) (c .before .before .before .before .before .before .before .before .first-address2 .ensures) (c .is-good-opened .ensures)
+returns-2 c = page-opens _ _ _ _ (bytes-of (c .before .before .before .before .before .before .before .before .before .before .pages .ensures)) _ _ (c .before .before .before .before .before .before .before .before .before .first-address .ensures) (c .before .before .before .before .before .before .before .page-offset .ensures) _ (c .before .before .before .before .before .before .open-page .ensures) _ (c .before .before .before .before .pg .given .1) _ _ _ (bytes-of (c .before .before .global-opcodes .ensures)) (c .before .before .before .before .before .before .before .before .first-address2 .ensures) (c .is-good-opened .ensures)
 
 pub is-good-page-spec : {M : Type 1} → statement M
 is-good-page-spec =
