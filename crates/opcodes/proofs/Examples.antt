@@ -13,6 +13,8 @@ use Rattle.opcodes.specs.WordsX86 as x86
 use Rattle.opcodes.specs.WordsArm64 as arm64
 use Rattle.opcodes.specs.declared.«x86_64».«RegisterNameX86_64».{«RegisterNameX86_64»}
 use Rattle.opcodes.specs.declared.«x86_64».«RegisterNameX86_64».the-variants.{Rbx, R12, R13, R14, R15, Rbp}
+use Rattle.opcodes.specs.declared.«x86_64».«OpcodeX86_64».{«OpcodeX86_64»}
+use Rattle.opcodes.specs.declared.arm64.«OpcodeArm64».{«OpcodeArm64»}
 
 pub data Asked : Type 0 where
   bitfield : (word : ℕ) → Asked
@@ -20,6 +22,8 @@ pub data Asked : Type 0 where
   on-arm64 : (word : ℕ) → Asked
   numbers : «RegisterNameX86_64» → Asked
   named : (number : ℕ) → Asked
+  case-x86-64 : «OpcodeX86_64» → Asked
+  case-arm64 : «OpcodeArm64» → Asked
 
 pub data Answered : Type 0 where
   has : (kind specific : ℕ) → Answered
@@ -34,6 +38,8 @@ answer (x86-64 w) = says (x86.parseOf w .word) (x86.parseOf w .saved)
 answer (on-arm64 w) = says-arm64 (arm64.parseOf w)
 answer (numbers r) = own-and-dwarf (numberOf r) (dwarfOf r)
 answer (named n) = names (namedOf n)
+answer (case-x86-64 o) = says (x86.wordOf o) []
+answer (case-arm64 o) = says-arm64 (arm64.told o)
 
 -- the pairs of the arm64 word are x19/x20, x23/x24, x25/x26, d10/d11 and d12/d13
 abbrev pub rows : List (Asked × Answered)
@@ -67,6 +73,12 @@ rows =
     ∷ (named 6, names (registers.register 6))
     ∷ (named 7, names registers.none)
     ∷ (named 255, names registers.none)
+    -- the code's cases that have several values, which the definitions tell in this order
+    ∷ (case-x86-64 («OpcodeX86_64».FramelessIndirect 77 48), says (x86.framelessIndirect 77 48) [])
+    ∷ (
+      case-arm64 («OpcodeArm64».FrameBased 5 true false true true false false true true false),
+      says-arm64 (arm64.frameBased 5 (true ∷ false ∷ true ∷ true ∷ false ∷ false ∷ true ∷ true ∷ false ∷ [])),
+    )
     ∷ []
 
 pub words-say : map (λ (r : Asked × Answered). answer (r .0)) rows ≡ map (λ (r : Asked × Answered). r .1) rows

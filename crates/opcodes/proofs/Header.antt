@@ -75,9 +75,22 @@ pub x86-by-header : (w : ℕ) → headerX86 w ≡ x86.parseOf w
 unfolding x86.parseOf
 x86-by-header w =
     simp (
-      compared 24 4 0 w, compared 24 4 1 w, compared 24 4 2 w, compared 24 4 3 w, compared 24 4 4 w,
-      masked 24 4 w, masked 16 8 w, masked 13 3 w, masked 10 3 w, masked 0 10 w, masked 0 24 w,
-      entry 12 0 w, entry 9 3 w, entry 6 6 w, entry 3 9 w, entry 0 12 w,
+      compared 24 4 0 w,
+      compared 24 4 1 w,
+      compared 24 4 2 w,
+      compared 24 4 3 w,
+      compared 24 4 4 w,
+      masked 24 4 w,
+      masked 16 8 w,
+      masked 13 3 w,
+      masked 10 3 w,
+      masked 0 10 w,
+      masked 0 24 w,
+      entry 12 0 w,
+      entry 9 3 w,
+      entry 6 6 w,
+      entry 3 9 w,
+      entry 0 12 w,
     )
 
 -- arm64.
@@ -113,8 +126,20 @@ pub arm64-by-header : (w : ℕ) → headerArm64 w ≡ arm64.parseOf w
 unfolding arm64.parseOf
 arm64-by-header w =
     simp (
-      compared 24 4 0 w, compared 24 4 2 w, compared 24 4 3 w, compared 24 4 4 w,
-      masked 24 4 w, masked 12 12 w, masked 0 24 w,
-      compared 0 1 1 w, compared 1 1 1 w, compared 2 1 1 w, compared 3 1 1 w, compared 4 1 1 w,
-      compared 5 1 1 w, compared 6 1 1 w, compared 7 1 1 w, compared 8 1 1 w,
+      compared 24 4 0 w,
+      compared 24 4 2 w,
+      compared 24 4 3 w,
+      compared 24 4 4 w,
+      masked 24 4 w,
+      masked 12 12 w,
+      masked 0 24 w,
+      compared 0 1 1 w,
+      compared 1 1 1 w,
+      compared 2 1 1 w,
+      compared 3 1 1 w,
+      compared 4 1 1 w,
+      compared 5 1 1 w,
+      compared 6 1 1 w,
+      compared 7 1 1 w,
+      compared 8 1 1 w,
     )

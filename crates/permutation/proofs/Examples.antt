@@ -50,11 +50,11 @@ decodes-none = refl
 
 -- a register twice, none among the listed, one above 6, one after the listed, a count above 6
 pub encodes-none : map (λ (r : Row). encodeOf (r .count) (r .registers)) (
-      row 2 0 (3 ∷ 3 ∷ 0 ∷ 0 ∷ 0 ∷ 0 ∷ [])
-      ∷ row 2 0 (3 ∷ 0 ∷ 0 ∷ 0 ∷ 0 ∷ 0 ∷ [])
-      ∷ row 1 0 (7 ∷ 0 ∷ 0 ∷ 0 ∷ 0 ∷ 0 ∷ [])
-      ∷ row 1 0 (3 ∷ 5 ∷ 0 ∷ 0 ∷ 0 ∷ 0 ∷ [])
-      ∷ row 7 0 (1 ∷ 2 ∷ 3 ∷ 4 ∷ 5 ∷ 6 ∷ [])
-      ∷ []) ≡ replicate 5 (Written.refused 28)
+    row 2 0 (3 ∷ 3 ∷ 0 ∷ 0 ∷ 0 ∷ 0 ∷ [])
+    ∷ row 2 0 (3 ∷ 0 ∷ 0 ∷ 0 ∷ 0 ∷ 0 ∷ [])
+    ∷ row 1 0 (7 ∷ 0 ∷ 0 ∷ 0 ∷ 0 ∷ 0 ∷ [])
+    ∷ row 1 0 (3 ∷ 5 ∷ 0 ∷ 0 ∷ 0 ∷ 0 ∷ [])
+    ∷ row 7 0 (1 ∷ 2 ∷ 3 ∷ 4 ∷ 5 ∷ 6 ∷ [])
+    ∷ []) ≡ replicate 5 (Written.refused 28)
 unfolding permuted.rows encodeOf
 encodes-none = refl
