@@ -14,7 +14,7 @@ abbrev pub largest : List ℕ → ℕ
 largest [] = 0
 largest (k ∷ ks) = max k (largest ks)
 
-at-most : (ks : List ℕ) (k : ℕ) → getD ks k 0 ≤ largest ks
+pub at-most : (ks : List ℕ) (k : ℕ) → getD ks k 0 ≤ largest ks
 at-most [] k = omega arith
 at-most (x ∷ xs) zero = omega arith
 at-most (x ∷ xs) (suc k) = omega (arith, at-most xs k)
