@@ -1,4 +1,5 @@
--- Steps with literal registers, and which refusal comes first: a table for each machine and one claim on it, by computation.
+-- Steps with literal registers, and which refusal comes first: a table for each machine and one claim on it, by computation; and the structs'
+-- fields in the definitions' terms.
 -- Assumes nothing.
 use Prim.Native.Nat.{ℕ, zero, suc}
 use mathlib.Core.Path.{_≡_, refl}
@@ -114,3 +115,10 @@ rows-arm64 =
 pub steps-of-arm64 : map (λ (r : Row). arm64.stepOf (r .0 .word) (r .0 .base) (r .0 .window) (r .0 .regs)) rows-arm64 ≡ map (λ (r : Row). r .1) rows-arm64
 unfolding numberAt words-arm64.parseOf rules-arm64.ruleOf arm64.stepOf
 steps-of-arm64 = refl
+
+-- What a struct's fields are called in the definitions.
+pub told-x86-64 : x86.regsTold (record { rip = 0x11; rsp = 0x22; saved = rising 6 0x33 }) ≡ regsOf 0x11 0x22 (0x33 ∷ 0x34 ∷ 0x35 ∷ 0x36 ∷ 0x37 ∷ 0x38 ∷ [])
+told-x86-64 = refl
+
+pub told-arm64 : arm64.regsTold (record { pc = 0x11; sp = 0x22; saved = rising 20 0x33 }) ≡ regsOf 0x11 0x22 (rising 20 0x33)
+told-arm64 = refl
