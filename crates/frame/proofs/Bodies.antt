@@ -19,10 +19,17 @@ at-most [] k = omega arith
 at-most (x ∷ xs) zero = omega arith
 at-most (x ∷ xs) (suc k) = omega (arith, at-most xs k)
 
-pub entered : (w n base cfa extent : ℕ) (mc : Machine) → length (mc .regs .kept) ≡ n → largest (mc .regs .kept) < 256 ^ w
-    → base + extent ≤ cfa → cfa ≤ base + length (mc .mem) → base + length (mc .mem) < 256 ^ w → Entered w n base cfa extent mc
-entered w n base cfa extent mc many words low high top =
-    record { many = many; words = λ k. omega (arith, at-most (mc .regs .kept) k); low = low; high = high; top = top }
+-- `Entered` in numbers alone
+pub record Enters (w n base cfa extent : ℕ) (mc : Machine) : Type 0 where
+  pub many : length (mc .regs .kept) ≡ n
+  pub words : largest (mc .regs .kept) < 256 ^ w
+  pub low : base + extent ≤ cfa
+  pub high : cfa ≤ base + length (mc .mem)
+  pub top : base + length (mc .mem) < 256 ^ w
+
+pub entered : (w n base cfa extent : ℕ) (mc : Machine) → Enters w n base cfa extent mc → Entered w n base cfa extent mc
+entered w n base cfa extent mc e =
+    record { many = e .many; words = λ k. omega (arith, at-most (mc .regs .kept) k, e .words); low = e .low; high = e .high; top = e .top }
 
 -- the registers with each saved one at 0
 abbrev pub wiped : List Slot → List ℕ → List ℕ
@@ -37,16 +44,27 @@ keeps : (w : ℕ) (ps m m′ : List ℕ) → map (λ (p : ℕ). part w p m′) p
 keeps w [] m m′ e = tt
 keeps w (p ∷ ps) m m′ e = (cc, keeps w ps m m′ (cc))
 
-pub body : (w : ℕ) (ps : List ℕ) (f : Frame) (r r′ : Regs) (m m′ : List ℕ) → anchored (f .anchor) r′ ≡ anchored (f .anchor) r → length (r′ .kept) ≡ length (r .kept)
-    → wiped (f .saved) (r′ .kept) ≡ wiped (f .saved) (r .kept) → length m′ ≡ length m → map (λ (p : ℕ). part w p m′) ps ≡ map (λ (p : ℕ). part w p m) ps
-    → Body w ps f r r′ m m′
-body w ps f r r′ m m′ anchor count others window slots =
+-- all that a body may not change, in one value
+pub record Lasting : Type 0 where
+  pub anchor : ℕ
+  pub count : ℕ
+  pub others : List ℕ
+  pub long : ℕ
+  pub slots : List (List ℕ)
+
+abbrev pub lasting : ℕ → List ℕ → Frame → Regs → List ℕ → Lasting
+lasting w ps f r m =
+    record { anchor = anchored (f .anchor) r; count = length (r .kept); others = wiped (f .saved) (r .kept); long = length m; slots = map (λ (p : ℕ). part w p m) ps }
+
+pub body : (w : ℕ) (ps : List ℕ) (f : Frame) (r r′ : Regs) (m m′ : List ℕ) → lasting w ps f r′ m′ ≡ lasting w ps f r m → Body w ps f r r′ m m′
+body w ps f r r′ m m′ e =
     record {
       regs = record {
-        anchor = anchor;
-        count = count;
-        others = λ k u. sym (wiped-other (f .saved) (r′ .kept) k u) ∙ ap (λ (l : List ℕ). getD l k 0) others ∙ wiped-other (f .saved) (r .kept) k u;
+        anchor = ap (λ (l : Lasting). l .anchor) e;
+        count = ap (λ (l : Lasting). l .count) e;
+        others = λ k u.
+            sym (wiped-other (f .saved) (r′ .kept) k u) ∙ ap (λ (l : Lasting). getD (l .others) k 0) e ∙ wiped-other (f .saved) (r .kept) k u;
       };
-      window = window;
-      slots = keeps w ps m m′ slots;
+      window = ap (λ (l : Lasting). l .long) e;
+      slots = keeps w ps m m′ (ap (λ (l : Lasting). l .slots) e);
     }

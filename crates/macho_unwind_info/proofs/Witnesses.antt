@@ -48,8 +48,7 @@ unwinds-x86-64 =
     let mc : Machine = record { regs = regsOf 0x1000 0x7010 kept-x86; mem = rising 24 0x80 } in
     let covered = answered S bytes S-is-well-formed 0x103F first 4 in-first in
     undoes-x86-64 S bytes S-is-well-formed 0x103F first (covered .0) (covered .1) (sound-x86.frameBased refl (tested-sound 0x01010001 refl)) 0x7000 mc
-    (entered 8 6 0x7000 0x7018 _ mc refl (omega arith) (omega arith) (omega arith) (omega arith)) _ _
-    (body 8 _ _ _ _ _ _ refl refl refl refl refl)
+    (entered 8 6 0x7000 0x7018 _ mc (omega arith)) _ _ (body 8 _ _ _ _ _ _ refl)
     ∙ ap (λ (n : ℕ). unwound (numbered 0 0) n (regsOf 0x9796959493929190 0x7018 kept-x86)) (ap probesOf in-first)
 
 -- the second's, 0x02030800, is sound on arm64 too: frameless, 768 bytes
@@ -58,6 +57,5 @@ unwinds-arm64 =
     let mc : Machine = record { regs = regsOf 0x1000 0x7300 kept-arm64; mem = replicate 768 0 } in
     let covered = answered S bytes S-is-well-formed 0x1040 second 3 in-second in
     undoes-arm64 S bytes S-is-well-formed 0x1040 second (covered .0) (covered .1) (sound-arm64.frameless refl) 0x7000 mc
-    (entered 8 20 0x7000 0x7300 _ mc refl (omega arith) (omega arith) (omega arith) (omega arith)) _ _
-    (body 8 _ _ _ _ _ _ refl refl refl refl refl)
+    (entered 8 20 0x7000 0x7300 _ mc (omega arith)) _ _ (body 8 _ _ _ _ _ _ refl)
     ∙ ap (λ (n : ℕ). unwound (numbered 0 0) n (regsOf 0x5F5E5D5C5B5A5958 0x7300 kept-arm64)) (ap probesOf in-second)

@@ -44,8 +44,7 @@ pub frame-based-x86-64 : steps-x86.stepOf 0x81050A43 0x7000 based-mem-x86 (regsO
 unfolding numberAt
 frame-based-x86-64 =
     let mc : Machine = machine 0x7030 kept-x86 (rising 56 0x80) in
-    x86.undoes 0x81050A43 based-x86 0x7000 mc (entered 8 6 0x7000 0x7038 _ mc refl (omega arith) (omega arith) (omega arith) (omega arith)) _ _
-    (body 8 _ _ _ _ _ _ refl refl refl refl refl)
+    x86.undoes 0x81050A43 based-x86 0x7000 mc (entered 8 6 0x7000 0x7038 _ mc (omega arith)) _ _ (body 8 _ _ _ _ _ _ refl)
 
 -- frameless: 48 bytes; r13, r12 and rbp lie 32, 24 and 16 below CFA; the window is the whole frame and ends with the last address
 listed-x86 : sound-x86.Listed 0x82060C2F (3 ∷ 2 ∷ 6 ∷ [])
@@ -65,8 +64,7 @@ unfolding numberAt
 frameless-x86-64 =
     let mc : Machine = machine 0xFFFFFFFFFFFFFFF7 kept-x86 (rising 48 0x80) in
     x86.undoes 0x82060C2F pushed-x86 0xFFFFFFFFFFFFFFCF mc
-    (entered 8 6 0xFFFFFFFFFFFFFFCF 0xFFFFFFFFFFFFFFFF _ mc refl (omega arith) (omega arith) (omega arith) (omega arith)) _ _
-    (body 8 _ _ _ _ _ _ refl refl refl refl refl)
+    (entered 8 6 0xFFFFFFFFFFFFFFCF 0xFFFFFFFFFFFFFFFF _ mc (omega arith)) _ _ (body 8 _ _ _ _ _ _ refl)
 
 -- arm64. The registers' bytes are 0 to 0x97 but for d15's, the window's from 0xA0 on, and a body writes from 0xF8 on, or from 0x20 on.
 abbrev pub kept-arm64 : List ℕ
@@ -95,8 +93,7 @@ based-kept-arm64 =
 pub frame-based-arm64 : steps-arm64.stepOf 0x84000092 0x7000 based-mem-arm64 (regsOf 0x1234 0x6FF0 based-kept-arm64) ≡ answered 0x5F5E5D5C5B5A5958 0x7040 kept-arm64
 frame-based-arm64 =
     let mc : Machine = machine 0x7040 kept-arm64 (rising 72 0xA0) in
-    arm64.undoes 0x84000092 based-arm64 0x7000 mc (entered 8 20 0x7000 0x7040 _ mc refl (omega arith) (omega arith) (omega arith) (omega arith)) _ _
-    (body 8 _ _ _ _ _ _ refl refl refl refl refl)
+    arm64.undoes 0x84000092 based-arm64 0x7000 mc (entered 8 20 0x7000 0x7040 _ mc (omega arith)) _ _ (body 8 _ _ _ _ _ _ refl)
 
 -- frameless: 48 bytes, and no register may change; the window is the whole frame and ends with the last address
 abbrev lowered-arm64 : sound-arm64.Sound 0x82003092
@@ -107,5 +104,4 @@ pub frameless-arm64 : steps-arm64.stepOf 0x82003092 0xFFFFFFFFFFFFFFCF (rising 4
 frameless-arm64 =
     let mc : Machine = machine 0xFFFFFFFFFFFFFFFF kept-arm64 (rising 48 0xA0) in
     arm64.undoes 0x82003092 lowered-arm64 0xFFFFFFFFFFFFFFCF mc
-    (entered 8 20 0xFFFFFFFFFFFFFFCF 0xFFFFFFFFFFFFFFFF _ mc refl (omega arith) (omega arith) (omega arith) (omega arith)) _ _
-    (body 8 _ _ _ _ _ _ refl refl refl refl refl)
+    (entered 8 20 0xFFFFFFFFFFFFFFCF 0xFFFFFFFFFFFFFFFF _ mc (omega arith)) _ _ (body 8 _ _ _ _ _ _ refl)
