@@ -9,8 +9,9 @@ use lib.ListN.{length, getD, set}
 use lib.Seq.{getD-set-other}
 use Rattle.frame.specs.Memory.{part, load, store}
 use Rattle.frame.specs.Frame.{Slot, lowest}
-use Rattle.frame.specs.Calls.{Machine, All, Apart, Spread, Held, stores, Ran}
+use Rattle.frame.specs.Calls.{Machine, All}
 use Rattle.frame.specs.Fields.{fieldSlots, saved, frameBased, storeFields, prologue}
+use Rattle.frame.proofs.Prologues.{Apart, Spread, Held, stores, Ran}
 use Rattle.frame.proofs.Slots.{load-same}
 use Rattle.frame.proofs.Pointed.{leaves}
 use Rattle.frame.proofs.Stores.{all-map, all-both, lowest-all, stores-other, stores-kept}

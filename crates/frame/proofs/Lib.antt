@@ -1,3 +1,4 @@
+pub mod Prologues
 pub mod Slots
 pub mod Stores
 pub mod Distances
@@ -6,3 +7,4 @@ pub mod Pushed
 pub mod Pointed
 pub mod Fielded
 pub mod Lowered
+pub mod Bodies

@@ -8,7 +8,8 @@ use lib.ListN.{length, getD, set, length-set}
 use lib.Seq.{getD-set-same, getD-set-other}
 use Rattle.frame.specs.Memory.{bytes, part, load}
 use Rattle.frame.specs.Frame.{Regs, Slot, register, slot}
-use Rattle.frame.specs.Calls.{All, Spread, Held, Unlisted, stores, Ran}
+use Rattle.frame.specs.Calls.{All, Unlisted}
+use Rattle.frame.proofs.Prologues.{Spread, Held, stores, Ran}
 use Rattle.frame.proofs.Stores.{length-stores, stores-above, stores-saved}
 
 module _ (w base cfa fp to : ℕ) (ss : List Slot) (e r : Regs) (m₀ m : List ℕ) (known : fp < length (e .kept)) (at : to + (w + w) ≡ cfa)

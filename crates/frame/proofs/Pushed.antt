@@ -8,8 +8,9 @@ use native.Mathlib.Omega.{arith}
 use lib.ListN.{length, getD}
 use Rattle.frame.specs.Memory.{part, bytes, load}
 use Rattle.frame.specs.Frame.{Slot}
-use Rattle.frame.specs.Calls.{Machine, All, Apart, Spread, Held, Ran}
+use Rattle.frame.specs.Calls.{Machine, All}
 use Rattle.frame.specs.Pushes.{pushAll, prologue, deep, pushed, frameless, Named}
+use Rattle.frame.proofs.Prologues.{Apart, Spread, Held, Ran}
 use Rattle.frame.proofs.Slots.{part-store-other, part-store-same, length-store, load-same}
 use Rattle.frame.proofs.Stores.{all-map, all-both}
 
@@ -23,7 +24,7 @@ Between w n most s = (w + w ≤ s .below) × (s .below ≤ most) × (s .reg < n)
 
 pushed-in : (w n most : ℕ) (xs : List ℕ) → Named n xs → deep w xs ≤ most → All (Between w n most) (pushed w xs)
 pushed-in w n most [] g h = tt
-pushed-in w n most (x ∷ xs) g h = ((omega (arith, deep-least w xs), h, omega arith), pushed-in w n most xs (g .2) (omega arith))
+pushed-in w n most (x ∷ xs) g h = ((omega (arith, deep-least w xs), omega arith, omega arith), pushed-in w n most xs (g .2) (omega arith))
 
 -- the slots lie apart, and from the return address's
 pub spread : (w n : ℕ) (xs : List ℕ) → Named n xs → Spread w (pushed w xs)

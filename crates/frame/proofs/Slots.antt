@@ -11,7 +11,7 @@ use lib.Seq.{sets, length-sets, sets-eq, drop-set-lt, drop-set-add, take-set-le,
 use Rattle.reader.specs.Reader.{numberAt}
 use Rattle.reader.proofs.Laws as reading
 use Rattle.frame.specs.Memory.{bytes, part, load, store}
-use Rattle.frame.specs.Calls.{Apart}
+use Rattle.frame.proofs.Prologues.{Apart}
 
 pub length-bytes : (w v : ℕ) → length (bytes w v) ≡ w
 length-bytes zero v = refl

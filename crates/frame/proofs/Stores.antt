@@ -8,7 +8,8 @@ use native.Mathlib.Omega.{arith}
 use lib.ListN.{length, getD}
 use Rattle.frame.specs.Memory.{bytes, part, store}
 use Rattle.frame.specs.Frame.{Slot, lowest}
-use Rattle.frame.specs.Calls.{All, Apart, Spread, Held, stores}
+use Rattle.frame.specs.Calls.{All}
+use Rattle.frame.proofs.Prologues.{Apart, Spread, Held, stores}
 use Rattle.frame.proofs.Slots.{part-store-other, part-store-same, length-store}
 
 pub all-map : (P Q : Slot → Type 0) → ((s : Slot) → P s → Q s) → (ss : List Slot) → All P ss → All Q ss

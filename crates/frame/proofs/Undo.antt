@@ -9,7 +9,8 @@ use borrow.Author.Tests.{le-leb, lt-ltb}
 use lib.ListN.{length, getD, replicate, length-replicate}
 use Rattle.frame.specs.Memory.{part, bytes, load}
 use Rattle.frame.specs.Frame.{Regs, Slot, Return, slot, holds, Frame, anchored, slotPlaces, placesOf, places, distancesOf, inside, restored, returnInside, returned, stepOf}
-use Rattle.frame.specs.Calls.{All, Held, Unlisted, ReturnIs, Ran, Keeps, Body}
+use Rattle.frame.specs.Calls.{All, Unlisted, Keeps, Body}
+use Rattle.frame.proofs.Prologues.{Held, ReturnIs, Ran}
 use Rattle.frame.proofs.Slots.{load-same, load-of}
 use Rattle.frame.proofs.Stores.{all-map, all-both}
 use Rattle.frame.proofs.Distances.{distances-all, distances-zero, length-distances, all-inside, restored-is, getD-zeroes}
@@ -32,11 +33,17 @@ return-inside : (w base cfa : ℕ) (ss : List Slot) (pc : ℕ) (r : Regs) (m : L
 return-inside w base cfa ss pc r m len (slot d) h i = inside-true w base len cfa d (i .0) (i .1) h
 return-inside w base cfa ss pc r m len (holds k) h i = refl
 
+-- the first place that a body keeps is the return address's
+kept-there : (w p q : ℕ) (m m′ : List ℕ) → part w p m′ ≡ part w p m → p ≡ q → part w q m′ ≡ part w q m
+kept-there w p q m m′ h e = rw e at h
+
 return-pc : (w base cfa : ℕ) (ss : List Slot) (pc : ℕ) (r r′ : Regs) (m m′ : List ℕ) (ret : Return)
     → ((k : ℕ) → Unlisted ss k → getD (r′ .kept) k 0 ≡ getD (r .kept) k 0)
     → ReturnIs w base cfa ss pc r m ret → Keeps w (placesOf base cfa ret ss) m m′
     → returned (λ (d : ℕ). load w (cfa - d - base) m′) (r′ .kept) ret ≡ pc
-return-pc w base cfa ss pc r r′ m m′ (slot d) o i k = load-same w (cfa - d - base) m m′ (k .0) ∙ i .2
+return-pc w base cfa ss pc r r′ m m′ (slot d) o i k =
+    let p : ℕ = getD (placesOf base cfa (slot d) ss) 0 0 in
+    load-same w (cfa - d - base) m m′ (kept-there w p (cfa - d - base) m m′ (k .0) (omega arith)) ∙ i .2
 return-pc w base cfa ss pc r r′ m m′ (holds x) o i k = o x (i .0) ∙ i .1
 
 module _ (w base cfa : ℕ) (f : Frame) (e : Regs) (pc : ℕ) (r r′ : Regs) (m m′ : List ℕ)

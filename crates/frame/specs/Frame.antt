@@ -57,13 +57,6 @@ abbrev pub lowest : List Slot → ℕ
 lowest [] = 0
 lowest (s ∷ ss) = max (s .below) (lowest ss)
 
-abbrev pub depthOf : Return → List Slot → ℕ
-depthOf (slot d) ss = max d (lowest ss)
-depthOf (holds k) ss = lowest ss
-
-abbrev pub depth : Frame → ℕ
-depth f = depthOf (f .return) (f .saved)
-
 -- the distances below CFA by register, 0 for one that is not saved
 abbrev pub distances : List ℕ → List Slot → List ℕ
 distances ds [] = ds

@@ -5,3 +5,4 @@ pub mod One
 pub mod Worked
 pub mod Apart
 pub mod Viewed
+pub mod Witnesses

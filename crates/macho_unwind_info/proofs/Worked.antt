@@ -1,8 +1,8 @@
 -- P1 to P12 of document 01, "Numbers to try": one table of what is asked and what is answered, and one claim, by computation.
 -- Assumes nothing.
-use Prim.Native.Nat.{ℕ, _-_}
+use Prim.Native.Nat.{ℕ}
 use mathlib.Core.Path.{_≡_, refl}
-use mathlib.Core.List.{List, [], _∷_, _++_, map}
+use mathlib.Core.List.{List, [], _∷_, map}
 use lib.ListN.{replicate}
 use Rattle.reader.specs.Reader.{numberAt, grantedOf, readOf, wordAt, partOf}
 use Rattle.search.specs.Search.{countOf, keyOf, mid, more, rounds, run, searchOf}
@@ -14,21 +14,18 @@ use Rattle.lookup.specs.Lookup.{Looked, found, nothing, fromSpot, fromPage, atP
 use Rattle.well_formed.proofs.Examples.{S, first, second}
 use Rattle.permutation.specs.Permutation as permuted
 use Rattle.permutation.specs.Permutation.{accepted, decodeOf}
-use Rattle.opcodes.specs.Registers.{numberOf}
 use Rattle.opcodes.specs.WordsX86.{parseOf}
-use Rattle.opcodes.specs.declared.«x86_64».«RegisterNameX86_64».the-variants.{Rbx, R12}
-use Rattle.frame.specs.Memory.{load}
 use Rattle.rules.specs.Answers.{numbered}
 use Rattle.rules.specs.RulesX86.{ruleOf}
 use Rattle.step.specs.Steps.{Told, regsOf}
 use Rattle.step.specs.StepsX86.{stepOf}
 
--- three slots that differ, from 0x7000 to 0x7018, and the slot at a place
+-- 24 bytes that all differ, from 0x7000 to 0x7018
 abbrev pub window : List ℕ
-window = replicate 8 0x11 ++ replicate 8 0x22 ++ replicate 8 0x33
-
-abbrev pub slotAt : ℕ → ℕ
-slotAt place = load 8 (place - 0x7000) window
+window =
+    0x01 ∷ 0x02 ∷ 0x03 ∷ 0x04 ∷ 0x05 ∷ 0x06 ∷ 0x07 ∷ 0x08
+    ∷ 0x09 ∷ 0x0A ∷ 0x0B ∷ 0x0C ∷ 0x0D ∷ 0x0E ∷ 0x0F ∷ 0x10
+    ∷ 0x11 ∷ 0x12 ∷ 0x13 ∷ 0x14 ∷ 0x15 ∷ 0x16 ∷ 0x17 ∷ 0x18 ∷ []
 
 pub data Asked : Type 0 where
   lookup : (address : ℕ) → Asked
@@ -57,7 +54,7 @@ infixl 20 _⇒_
 abbrev pub _⇒_ : Asked → Answered → Row
 _⇒_ q a = record { asked = q; answered = a }
 
--- a lookup also tells its probes, a refused permutation 23 and zeros
+-- a lookup also tells its probes, a refused permutation 23 and zeros; rbx is register 1, r12 register 2
 abbrev pub rows : List Row
 rows =
     (lookup 0x0fff ⇒ looked (nothing 2))
@@ -70,9 +67,9 @@ rows =
     ∷ (permutation 5 719 ⇒ decoded (accepted (6 ∷ 5 ∷ 4 ∷ 3 ∷ 2 ∷ 0 ∷ [])))
     ∷ (permutation 0 1023 ⇒ decoded (accepted (replicate 6 0)))
     ∷ (permutation 7 0 ⇒ decoded (permuted.Told.refused 23 (replicate 6 0)))
-    ∷ (registers 0x02030800 ⇒ listed (numberOf Rbx ∷ numberOf R12 ∷ 0 ∷ 0 ∷ 0 ∷ 0 ∷ []))
+    ∷ (registers 0x02030800 ⇒ listed (1 ∷ 2 ∷ 0 ∷ 0 ∷ 0 ∷ 0 ∷ []))
     ∷ (step 0x01010001 0x7008
-    ⇒ stepped (record { refusal = numbered 0 0; regs = regsOf (slotAt 0x7010) 0x7018 (slotAt 0x7000 ∷ 2 ∷ 3 ∷ 4 ∷ 5 ∷ slotAt 0x7008 ∷ []) }))
+    ⇒ stepped (record { refusal = numbered 0 0; regs = regsOf 0x1817161514131211 0x7018 (0x0807060504030201 ∷ 2 ∷ 3 ∷ 4 ∷ 5 ∷ 0x100F0E0D0C0B0A09 ∷ []) }))
     ∷ []
 
 pub P1-to-P12 : map (λ (r : Row). answer (r .asked)) rows ≡ map (λ (r : Row). r .answered) rows

@@ -2,3 +2,4 @@ pub mod KindsX86
 pub mod KindsArm64
 pub mod Header
 pub mod One
+pub mod Examples

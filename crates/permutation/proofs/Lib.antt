@@ -7,3 +7,4 @@ pub mod Lists
 pub mod One
 pub mod Decoding
 pub mod Encoding
+pub mod Examples

@@ -2,7 +2,7 @@
 -- Assumes nothing.
 use Prim.Native.Nat.{ℕ, zero, suc, _+_, _*_, _<_, _≤_}
 use mathlib.Core.Path.{_≡_, refl, ap, sym, _∙_}
-use mathlib.Core.Logic.{_⊎_, inl, inr, ⊎-elim}
+use mathlib.Core.Logic.{_⊎_, inl, inr}
 use mathlib.Core.Bool.{Bool, true, false, cond}
 use mathlib.Core.List.{List, [], _∷_, _++_, append-assoc, append-nil}
 use native.Mathlib.Omega.{arith}
@@ -12,9 +12,9 @@ use Rattle.opcodes.specs.WordsArm64 as words
 use Rattle.opcodes.specs.WordsArm64.{parseOf}
 use Rattle.opcodes.proofs.KindsArm64.{of-kind, of-no-kind}
 use Rattle.frame.specs.Downwards as downwards
-use Rattle.frame.specs.Calls.{Spread}
+use Rattle.frame.proofs.Prologues.{Spread}
 use Rattle.frame.proofs.Lowered as lowered
-use Rattle.frame.proofs.Lowered.{Places}
+use Rattle.frame.proofs.Lowered.{Rising}
 use Rattle.rules.specs.Answers.{Number, numbered, Ruling, ruling}
 use Rattle.rules.specs.RulesArm64.{refusal, listedFrom, byWord, ruleOf}
 use Rattle.rules.specs.SoundArm64.{pairs, listed, Sound, frameBased, frameless, Refused, null, dwarf, unrecognised, frameOf}
@@ -65,27 +65,24 @@ never-both w n s f =
     let z : 0 ≡ n .number = ap (λ (u : Ruling). u .refusal .number) (sym (sound-rule w s) ∙ refused-rule w n f) in
     omega (arith, z, refused-number w n f .0)
 
--- the listed registers are among twenty, and x29 is not one of them
-places-both : (xs ys : List ℕ) → Places 20 10 xs → Places 20 10 ys → Places 20 10 (xs ++ ys)
-places-both [] ys p q = q
-places-both (x ∷ xs) ys p q = (p .0, p .1, places-both xs ys (p .2) q)
+-- The listed registers are among twenty, and their numbers rise: a pair and what follows it,
+pair-rises : (a : Bool) (p b : ℕ) (xs : List ℕ) → b ≤ p → p + 2 ≤ 20 → ((c : ℕ) → c ≤ p + 2 → Rising 20 c xs) → Rising 20 b (cond a (p ∷ suc p ∷ []) [] ++ xs)
+pair-rises true p b xs h l r = (h, omega arith, (omega arith, omega arith, r (suc (suc p)) (omega arith)))
+pair-rises false p b xs h l r = r b (omega arith)
 
--- the pair's places are from p on, before or after x29's
-places-pair : (b : Bool) (p : ℕ) → p + 2 ≤ 20 → (p + 2 ≤ 10) ⊎ (10 < p) → Places 20 10 (cond b (p ∷ suc p ∷ []) [])
-places-pair true p h (inl l) = (omega arith, λ e. omega arith, (omega arith, λ e. omega arith, tt))
-places-pair true p h (inr l) = (omega arith, λ e. omega arith, (omega arith, λ e. omega arith, tt))
-places-pair false p h l = tt
+-- n pairs and what follows them,
+pairs-rise : (w n j p b : ℕ) (xs : List ℕ) → b ≤ p → p + 2 * n ≤ 20 → ((c : ℕ) → c ≤ p + 2 * n → Rising 20 c xs) → Rising 20 b (pairs w n j p ++ xs)
+pairs-rise w zero j p b xs h l r = r b (omega arith)
+pairs-rise w (suc n) j p b xs h l r =
+    rw append-assoc
+    (pair-rises (eqb (bits j 1 w) 1) p b (pairs w n (suc j) (p + 2) ++ xs) h (omega arith)
+    (λ c k. pairs-rise w n (suc j) (p + 2) c xs k (omega arith) (λ d i. r d (omega arith))))
 
-places-pairs : (w n j p : ℕ) → p + 2 * n ≤ 20 → (p + 2 * n ≤ 10) ⊎ (10 < p) → Places 20 10 (pairs w n j p)
-places-pairs w zero j p h l = tt
-places-pairs w (suc n) j p h l =
-    places-both (cond (eqb (bits j 1 w) 1) (p ∷ suc p ∷ []) []) (pairs w n (suc j) (p + 2))
-    (places-pair (eqb (bits j 1 w) 1) p (omega arith) (⊎-elim (λ a. inl (omega arith)) (λ a. inr a) l))
-    (places-pairs w n (suc j) (p + 2) (omega arith) (⊎-elim (λ a. inl (omega arith)) (λ a. inr (omega arith)) l))
-
-pub listed-places : (w : ℕ) → Places 20 10 (listed w)
-listed-places w =
-    places-both (pairs w 5 0 0) (pairs w 4 5 12) (places-pairs w 5 0 0 (omega arith) (inl (omega arith))) (places-pairs w 4 5 12 (omega arith) (inr (omega arith)))
+-- all of them.
+pub listed-rises : (w : ℕ) → Rising 20 0 (listed w)
+listed-rises w =
+    pairs-rise w 5 0 0 0 (pairs w 4 5 12) (omega arith) (omega arith)
+    (λ c h. rw append-nil at (pairs-rise w 4 5 12 c [] (omega arith) (omega arith) (λ d i. tt)))
 
 -- Slots of a sound word lie apart.
 pub apart : (w : ℕ) (s : Sound w) → Spread 8 (frameOf w s .saved)

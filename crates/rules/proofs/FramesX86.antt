@@ -15,8 +15,9 @@ use Rattle.opcodes.specs.WordsX86.{Told, parseOf}
 use Rattle.opcodes.proofs.KindsX86.{of-kind, of-no-kind}
 use Rattle.permutation.specs.Permutation.{accepts, registersOf}
 use Rattle.frame.specs.Frame.{Slot}
-use Rattle.frame.specs.Calls.{All, Apart, Spread}
+use Rattle.frame.specs.Calls.{All}
 use Rattle.frame.specs.Pushes.{deep}
+use Rattle.frame.proofs.Prologues.{Apart, Spread}
 use Rattle.frame.proofs.Pushed as pushed
 use Rattle.frame.proofs.Fielded as fielded
 use Rattle.frame.proofs.Fielded.{Fields}

@@ -41,7 +41,7 @@ abbrev pub frameOf : (w : ℕ) → Sound w → Frame
 frameOf w (frameBased k) = downwards.frameBased 8 10 11 (listed w)
 frameOf w (frameless k) = downwards.frameless 11 (sizeOf w)
 
--- At entry sp is CFA, and the return address is in x30.
+-- At entry sp is CFA, and the return address is in x30. Each listed register has its slot by its own number, whatever their order in the list.
 abbrev pub prologue : (w : ℕ) → Sound w → ℕ → Machine → Machine
 prologue w (frameBased k) base mc = downwards.prologue 8 base 10 11 (listed w) mc
 prologue w (frameless k) base mc = downwards.lowered (sizeOf w) mc

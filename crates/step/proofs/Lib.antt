@@ -6,3 +6,5 @@ pub mod UndoesX86
 pub mod UndoesArm64
 pub mod Refused
 pub mod One
+pub mod Examples
+pub mod Witnesses

@@ -6,13 +6,14 @@ use mathlib.Core.List.{List}
 use native.Mathlib.Omega.{arith}
 use lib.ListN.{getD}
 use Rattle.frame.specs.Frame.{Regs, places}
-use Rattle.frame.specs.Calls.{Machine, Ran, Body, Entered}
+use Rattle.frame.specs.Calls.{Machine, Body, Entered}
+use Rattle.frame.proofs.Prologues.{Ran}
 use Rattle.frame.proofs.Undo.{undo}
 use Rattle.frame.proofs.Lowered as lowered
 use Rattle.rules.specs.Answers.{Number, numbered, Ruling}
 use Rattle.rules.specs.RulesArm64.{ruleOf}
 use Rattle.rules.specs.SoundArm64.{sizeOf, listed, Sound, frameBased, frameless, Refused, frameOf, prologue, extent}
-use Rattle.rules.proofs.FramesArm64.{sound-rule, refused-rule, refused-number, listed-places}
+use Rattle.rules.proofs.FramesArm64.{sound-rule, refused-rule, refused-number, listed-rises}
 use Rattle.step.specs.Steps.{Told, regsOf, valueless}
 use Rattle.step.specs.StepsArm64.{stepOf}
 use Rattle.step.proofs.Stepping.{refused-by}
@@ -21,7 +22,7 @@ use Rattle.step.proofs.Stepping.{refused-by}
 ran : (w : ℕ) (s : Sound w) (base : ℕ) (mc : Machine) → Entered 8 20 base (mc .regs .sp) (extent w s) mc
     → Ran 8 base (mc .regs .sp) (frameOf w s) (mc .regs) (mc .mem) (getD (mc .regs .kept) 11 0) (prologue w s base mc .regs) (prologue w s base mc .mem)
 ran w (frameBased k) base mc en =
-    lowered.ran 8 base 10 11 (listed w) mc (rw (en .many) (listed-places w)) (omega (arith, en .many)) (omega (arith, en .many)) (en .low) (en .high) (en .words 11) (en .top)
+    lowered.ran 8 base 10 11 (listed w) mc (rw (en .many) (listed-rises w)) (omega (arith, en .many)) (omega (arith, en .many)) (en .low) (en .high) (en .words 11) (en .top)
 ran w (frameless k) base mc en = lowered.ran-lowered 8 base 11 (sizeOf w) mc (omega (arith, en .low)) (en .high) (en .top)
 
 -- Unwinding undoes the prologue: for every sound word, any entry registers and any window that holds the whole frame, after any body that

@@ -6,7 +6,8 @@ use mathlib.Core.List.{List}
 use native.Mathlib.Omega.{arith}
 use Rattle.frame.specs.Memory.{load}
 use Rattle.frame.specs.Frame.{Regs, places}
-use Rattle.frame.specs.Calls.{Machine, Ran, Body, Entered}
+use Rattle.frame.specs.Calls.{Machine, Body, Entered}
+use Rattle.frame.proofs.Prologues.{Ran}
 use Rattle.frame.proofs.Undo.{undo}
 use Rattle.frame.proofs.Pushed as pushed
 use Rattle.frame.proofs.Fielded as fielded

@@ -48,7 +48,7 @@ returns-2 c =
     let i = c .before .before .before .before in
     let a = i .before .before .args in
     let l = i .before .loop in
-    c .refuse2 .ensures ∙ shallow (a .offset) (0 ∷ 0 ∷ 0 ∷ 0 ∷ 0 ∷ 16 ∷ []) (take 5 (a .t2)) (l .below) (l .k) (l .inv .1) (within i) (λ z. c .before .before .before .if1 .taken (sym (field i) ∙ z)) (rw (field i) (c .before .before .if2 .left)) (c .before .if3 .taken)
+    c .refuse2 .ensures ∙ shallow (a .offset) (0 ∷ 0 ∷ 0 ∷ 0 ∷ 0 ∷ 16 ∷ []) (take 5 (a .t2)) (l .below) (l .k) (l .inv .1) (within i) (λ z. c .before .before .before .if1 .taken (sym (field i) ∙ z)) (rw (field i) (c .before .before .if2 .left)) (omega (arith, c .before .if3 .taken))
     ∙ loop-is (a .offset) (take 5 (a .t2))
 
 returns-3 : tie.Need-returns-3 Inv-loop μ-loop
@@ -56,7 +56,7 @@ returns-3 c =
     let i = c .before .before .before .before .before in
     let a = i .before .before .args in
     let l = i .before .loop in
-    c .refuse3 .ensures ∙ twice (a .offset) (0 ∷ 0 ∷ 0 ∷ 0 ∷ 0 ∷ 16 ∷ []) (take 5 (a .t2)) (l .below) (l .k) (l .inv .1) (within i) (λ z. c .before .before .before .before .if1 .taken (sym (field i) ∙ z)) (rw (field i) (c .before .before .before .if2 .left)) (c .before .before .if3 .left) (rw (field i) (c .before .if4 .taken))
+    c .refuse3 .ensures ∙ twice (a .offset) (0 ∷ 0 ∷ 0 ∷ 0 ∷ 0 ∷ 16 ∷ []) (take 5 (a .t2)) (l .below) (l .k) (l .inv .1) (within i) (λ z. c .before .before .before .before .if1 .taken (sym (field i) ∙ z)) (rw (field i) (c .before .before .before .if2 .left)) (omega (arith, c .before .before .if3 .left)) (rw (field i) (c .before .if4 .taken))
     ∙ loop-is (a .offset) (take 5 (a .t2))
 
 loop-again : tie.Need-loop-again Inv-loop μ-loop
@@ -68,7 +68,7 @@ loop-again c =
       omega arith,
       rw add-one
           (⊎-elim
-          (λ w. rw (w .4, ← e) (places (a .offset) (0 ∷ 0 ∷ 0 ∷ 0 ∷ 0 ∷ 16 ∷ []) (take 5 (a .t2)) (l .below) (l .k) (l .inv .1) (within i) (λ z. w .0 .taken (sym e ∙ z)) (rw e (w .1 .left)) (w .2 .left) (rw e (w .3 .left))))
+          (λ w. rw (w .4, ← e) (places (a .offset) (0 ∷ 0 ∷ 0 ∷ 0 ∷ 0 ∷ 16 ∷ []) (take 5 (a .t2)) (l .below) (l .k) (l .inv .1) (within i) (λ z. w .0 .taken (sym e ∙ z)) (rw e (w .1 .left)) (omega (arith, w .2 .left)) (rw e (w .3 .left))))
           (λ w. rw (w .1) (skip (a .offset) (0 ∷ 0 ∷ 0 ∷ 0 ∷ 0 ∷ 16 ∷ []) (take 5 (a .t2)) (l .below) (l .k) (l .inv .1) (within i) (e ∙ w .0 .left)))
           (c .if1 .came)),
     )
