@@ -3,8 +3,8 @@
 //! `compare` counts equal and different answers, `sections` those on sections alone, `frames` those
 //! on frames alone, `unwind` those on lookups with a step alone, `program` the lines of the program
 //! that lists functions; `record FILE` and `record-sections FILE` write answers of the Rust for a
-//! replay, `record-frames FILE` those of a processor; `worst FILE` writes a section with a very
-//! long listing, `bench` measures both.
+//! replay, `record-frames FILE` those of a processor, `record-listings FOLDER` listings; `worst
+//! FILE` writes a section with a very long listing, `bench` measures both.
 
 mod bench;
 mod encoder;
@@ -41,14 +41,15 @@ fn main() -> ExitCode {
         ["record", file] => done(record::write(file)),
         ["record-sections", file] => done(record::sections::write(file)),
         ["record-frames", file] => done(record::frames::write(file)),
+        ["record-listings", folder] => done(record::listings::write(folder)),
         ["worst", file] => done(worst::write(file)),
         ["bench"] => done(bench::run("")),
         ["bench", word] => done(bench::run(word)),
         _ => {
             eprintln!(
                 "usage: compare/run [compare | sections | frames | unwind | program COMMAND \
-                 | record FILE | record-sections FILE | record-frames FILE | worst FILE \
-                 | bench [WORD]]"
+                 | record FILE | record-sections FILE | record-frames FILE \
+                 | record-listings FOLDER | worst FILE | bench [WORD]]"
             );
             ExitCode::from(2)
         }

@@ -10,7 +10,7 @@ use std::io::{Error, Result, Write};
 use std::process::{Command, Stdio};
 
 /// The program takes no more bytes.
-const LIMIT: usize = 65_536;
+pub const LIMIT: usize = 65_536;
 
 pub fn compare(command: &[&str], report: &mut Report) -> Result<()> {
     let mut tally = Tally::new("program, listings of odd and real input");
@@ -88,7 +88,7 @@ fn run(command: &[&str], input: &[u8]) -> Result<String> {
 }
 
 /// Document 01's lines, by the second reader.
-fn listing(input: &[u8]) -> String {
+pub fn listing(input: &[u8]) -> String {
     if input.len() > LIMIT {
         return "refused 30\nend 0\n".to_string();
     }

@@ -6,6 +6,7 @@
 mod chosen;
 pub mod frames;
 mod inputs;
+pub mod listings;
 pub mod sections;
 mod witness;
 

@@ -12,10 +12,8 @@ use Rattle.raw.proofs.Grants.{parsed}
 use Rattle.iterate.specs.declared.Cursor.{Cursor}
 use Rattle.iterate.specs.Iterate.{Step, answer, end, nextOf}
 use Rattle.iterate.proofs.Left.{leftOf, fewer}
-use Rattle.raw.specs.declared.Error.{Error}
 use Rattle.fill.specs.declared.Filled.{Filled}
-use Rattle.fill.specs.declared.Stop.{Stop}
-use Rattle.fill.specs.Fill.{ended, Taken, byStep, takenOf, Outcome, outcome, fillOf, fillIn, untouched, whyOf, filledTold}
+use Rattle.fill.specs.Fill.{full, ended, Taken, byStep, takenOf, outcome, fillOf, fillIn, untouched, filledTold}
 
 -- what a block spends of the answers left
 pub record Spends (s : List ℕ) (l : Lists) (c : Cursor) (t : Taken) : Type 0 where
@@ -46,30 +44,30 @@ module _ (s : List ℕ) (l : Lists) where
   strictly zero c h t = absurd (omega arith)
   strictly (suc room) c h t = strict-step room c (nextOf s l c) refl t
 
+  -- no more functions than there is room for, and as many where that is why it stops
+  few-step : (room : ℕ) (x : Step) → ((d : Cursor) → length (takenOf s l room d .written) ≤ room) → length (byStep x (takenOf s l room) .written) ≤ suc room
+  few-step room (answer (good f) d) later = omega (arith, later d)
+  few-step room (answer (refused k) d) later = zero-le
+  few-step room (end d) later = zero-le
+
+  pub few : (room : ℕ) (c : Cursor) → length (takenOf s l room c .written) ≤ room
+  unfolding takenOf
+  few zero c = zero-le
+  few (suc room) c = few-step room (nextOf s l c) (few room)
+
+  full-step : (room : ℕ) (x : Step) → byStep x (takenOf s l room) .why ≡ full
+      → ((d : Cursor) → takenOf s l room d .why ≡ full → length (takenOf s l room d .written) ≡ room) → length (byStep x (takenOf s l room) .written) ≡ suc room
+  full-step room (answer (good f) d) h later = ap suc (later d h)
+  full-step room (answer (refused k) d) h later = absurd (let z : _≡_ {A = ℕ} 0 1 = cc in omega arith)
+  full-step room (end d) h later = absurd (let z : _≡_ {A = ℕ} 0 1 = cc in omega arith)
+
+  pub full-block : (room : ℕ) (c : Cursor) → takenOf s l room c .why ≡ full → length (takenOf s l room c .written) ≡ room
+  unfolding takenOf
+  full-block zero c h = refl
+  full-block (suc room) c h = full-step room (nextOf s l c) h (full-block room)
+
   -- what a call told, after a parse
-  module _ (p : parseOf s ≡ good l) (c : Cursor) (out : List ℕ) (r : Filled) (list : List ℕ) (e : filledTold r list ≡ fillIn s l c out) where
-    told : filledTold r list ≡ outcome (takenOf s l (length out / 3) c) out
-    unfolding fillIn fillOf
-    told = e ∙ ap (either (untouched c out) (λ m. fillOf s m c out)) (parsed s l p)
-
-    pub writes : r .functions ≤ leftOf s l c
-    writes = omega (arith, ap (λ (o : Outcome). o .functions) told, spends (length out / 3) c .written)
-
-    module _ (h : whyOf (r .stop) ≡ ended → ⊥) where
-      on : takenOf s l (length out / 3) c .why ≡ ended → ⊥
-      on q = h (ap (λ (o : Outcome). o .why) told ∙ q)
-
-      pub leaves : r .functions + leftOf s l (r .next) ≤ leftOf s l c
-      leaves =
-          rw (ap (λ (o : Outcome). o .next) told)
-          (omega (arith, ap (λ (o : Outcome). o .functions) told, spends (length out / 3) c .left on))
-
-      pub leaves-fewer : 0 < length out / 3 → leftOf s l (r .next) < leftOf s l c
-      leaves-fewer t = rw (ap (λ (o : Outcome). o .next) told) (strictly (length out / 3) c t on)
-
--- a block that is full, or refused, is not the last
-pub never-full : (w : Stop) → w ≡ Stop.Full → whyOf w ≡ ended → ⊥
-never-full w e q = let z : _≡_ {A = ℕ} 0 1 = cc in omega arith
-
-pub never-refusal : (w : Stop) (k : Error) → w ≡ Stop.Refused k → whyOf w ≡ ended → ⊥
-never-refusal w k e q = let z : _≡_ {A = ℕ} 0 1 = cc in omega arith
+  pub told : parseOf s ≡ good l → (c : Cursor) (out : List ℕ) (r : Filled) (list : List ℕ) → filledTold r list ≡ fillIn s l c out
+      → filledTold r list ≡ outcome (takenOf s l (length out / 3) c) out
+  unfolding fillIn fillOf
+  told p c out r list e = e ∙ ap (either (untouched c out) (λ m. fillOf s m c out)) (parsed s l p)

@@ -3,3 +3,4 @@ pub mod Turns
 pub mod Block
 pub mod Left
 pub mod One
+pub mod Together

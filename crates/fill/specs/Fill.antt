@@ -1,10 +1,10 @@
 -- Iteration by blocks: the answers of the calls from a cursor on, one after the other, into a lent list of numbers.
 -- Assumes nothing.
 use Prim.Native.Nat.{ℕ, zero, suc, _*_, _/_}
-use mathlib.Core.List.{List, [], _∷_, _++_}
+use mathlib.Core.List.{List, [], _∷_, _++_, map}
 use lib.ListN.{length, drop}
 use Rattle.raw.specs.declared.Lists.{Lists}
-use Rattle.raw.specs.Checked.{good, refused, either, numberOf}
+use Rattle.raw.specs.Checked.{Checked, good, refused, either, numberOf}
 use Rattle.raw.specs.Raw.{parseOf, grantOf}
 use Rattle.entries.specs.declared.Function.{Function}
 use Rattle.iterate.specs.declared.Cursor.{Cursor}
@@ -43,6 +43,15 @@ takenOf s l zero c = stopping c full
 takenOf s l (suc room) c =
     let later = takenOf s l room in
     byStep (nextOf s l c) later
+
+-- what a block answers: its functions, and its refusal where it stops at one
+abbrev pub refusalIn : Why → List (Checked Function)
+refusalIn full = []
+refusalIn ended = []
+refusalIn (refusal k) = refused k ∷ []
+
+abbrev pub answersIn : Taken → List (Checked Function)
+answersIn t = map good (t .written) ++ refusalIn (t .why)
 
 -- each function is three numbers
 unfoldable pub numbersOf : List Function → List ℕ

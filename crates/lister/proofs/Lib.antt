@@ -1,0 +1,4 @@
+pub mod Texts
+pub mod Cases
+pub mod Whole
+pub mod One

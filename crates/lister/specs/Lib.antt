@@ -1,0 +1,2 @@
+pub mod Lister
+pub mod Block
