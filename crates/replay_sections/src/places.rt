@@ -40,7 +40,7 @@ pub fn kind(item: &[u8]) -> u32
     if tag < 106 { tag } else { OTHER }
 }
 
-pub fn after(s: &[u8], p: Place) -> Place
+pub(crate) fn after(s: &[u8], p: Place) -> Place
     requires { ⌜ p .at < length (now s) ⌝ }
     ensures { λ r. ⌜ r ≡ afterOf (now (s .entry)) p ⌝ }
 {
