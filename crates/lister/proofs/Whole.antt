@@ -101,10 +101,10 @@ module _ (s : List ℕ) (l : Lists) (n : ℕ) (c : Cursor) (room : ℕ) where
       let rest : List (Checked Function) = answersFrom s l (t .next) in
       let answered : answersFrom s l c ≡ answersIn t ++ rest = front-block s l room c h in
       let many : counted n (functionsIn (answersFrom s l c)) ≡ counted m (functionsIn rest) =
-          omega (arith, ap functionsIn answered, functions-both (answersIn t) rest, functions-both (map good (t .written)) (refusalIn (t .why)), functions-all (t .written), stop-functions (t .why)) in
+      omega (arith, ap functionsIn answered, functions-both (answersIn t) rest, functions-both (map good (t .written)) (refusalIn (t .why)), functions-all (t .written), stop-functions (t .why)) in
       let lines : answersText (answersFrom s l c) ≡ text ++ answersText rest =
-          ap answersText answered ∙ text-both (answersIn t) rest
-          ∙ ap (λ (x : List ℕ). x ++ answersText rest) (text-both (map good (t .written)) (refusalIn (t .why)) ∙ ap (λ (x : List ℕ). answersText (map good (t .written)) ++ x) (stop-text (t .why) h)) in
+      ap answersText answered ∙ text-both (answersIn t) rest
+      ∙ ap (λ (x : List ℕ). x ++ answersText rest) (text-both (map good (t .written)) (refusalIn (t .why)) ∙ ap (λ (x : List ℕ). answersText (map good (t .written)) ++ x) (stop-text (t .why) h)) in
       ap (λ (x : List ℕ). x ++ endOf (counted n (functionsIn (answersFrom s l c)))) lines ∙ ap (λ (k : ℕ). (text ++ answersText rest) ++ endOf k) many
       ∙ append-assoc text (answersText rest) (endOf (counted m (functionsIn rest)))
 

@@ -145,10 +145,16 @@ pub fn write_block(s: &[u8], at: Place, out: &mut [u8]) -> Block
     let cursor = at.cursor;
     let functions = at.functions;
     if at.ended {
-        return Block { written: 0, next: at };
+        return Block {
+            written: 0,
+            next: at,
+        };
     }
     if out.len() < 52 {
-        return Block { written: 0, next: at };
+        return Block {
+            written: 0,
+            next: at,
+        };
     }
     match accept(s) {
         Accepted::Refused(number) => Block {

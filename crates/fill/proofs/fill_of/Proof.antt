@@ -27,36 +27,75 @@ same-length c = block.same-length _ _ _ _ _ _ _ _ (c .before .before .before .be
 
 returns : tie.Need-returns Inv-loop μ-loop
 returns c =
+    let at-loop-test = c .before .before .before in
+    let at-loop = at-loop-test .before in
     block.told-is _ _ _ _ _ _ (c .stopped .ensures)
-    ∙ block.stops _ _ _ _ _ _ _ _ (c .before .before .before .before .loop .inv .2) _ _ (block.at-last _ _ _ _ _ _ (omega (arith, c .before .before .before .loop-test .taken)) (c .before .before .if1 .taken) (c .before .end-cursor .ensures))
+    ∙ block.stops _ _ _ _ _ _ _ _ (at-loop .loop .inv .2) _ _ (block.at-last _ _ _ _ _ _ (omega (arith, at-loop-test .loop-test .taken)) (c .before .before .if1 .taken) (c .before .end-cursor .ensures))
 
 same-length-2 : tie.Need-same-length-2 Inv-loop μ-loop
 same-length-2 c = block.same-length _ _ _ _ _ _ _ _ (c .before .before .before .before .before .before .before .loop .inv .2)
 
 returns-2 : tie.Need-returns-2 Inv-loop μ-loop
 returns-2 c =
+    let at-open-at = c .before .before .before .before in
+    let at-if1 = at-open-at .before in
+    let at-loop-test = at-if1 .before in
+    let at-loop = at-loop-test .before in
     block.told-is _ _ _ _ _ _ (c .stopped2 .ensures)
-    ∙ block.stops _ _ _ _ _ _ _ _ (c .before .before .before .before .before .before .before .loop .inv .2) _ _ (block.page-no _ _ _ _ _ _ (omega (arith, c .before .before .before .before .before .before .loop-test .taken)) (c .before .before .before .before .before .if1 .left) (sym (c .before .before .before .before .open-at .ensures) ∙ ap pageTold (c .before .before .error .given .1)))
+    ∙ block.stops _ _ _ _ _ _ _ _ (at-loop .loop .inv .2) _ _ (block.page-no _ _ _ _ _ _ (omega (arith, at-loop-test .loop-test .taken)) (at-if1 .if1 .left) (sym (at-open-at .open-at .ensures) ∙ ap pageTold (c .before .before .error .given .1)))
 
 fill-page-requires : tie.Need-fill-page-requires Inv-loop μ-loop
-fill-page-requires c κs = (block.inside _ _ (c .before .before .before .before .before .before .before .before .before .before .before .pre) _ (c .before .before .before .before .before .before .if1 .left) _ (c .before .before .before .before .before .open-at .ensures) _ (c .before .before .before .pg .given .1) _ (c .before .source-of .ensures), omega (arith, c .before .before .before .before .before .before .before .loop-test .taken, block.same-length _ _ _ _ _ _ _ _ (c .before .before .before .before .before .before .before .before .loop .inv .2)))
+fill-page-requires c κs =
+    let at-pg = c .before .before .before in
+    let at-open-at = at-pg .before .before in
+    let at-if1 = at-open-at .before in
+    let at-loop-test = at-if1 .before in
+    let at-loop = at-loop-test .before in
+    let begins = at-loop .before .before .before in
+    (block.inside _ _ (begins .pre) _ (at-if1 .if1 .left) _ (at-open-at .open-at .ensures) _ (at-pg .pg .given .1) _ (c .before .source-of .ensures), omega (arith, at-loop-test .loop-test .taken, block.same-length _ _ _ _ _ _ _ _ (at-loop .loop .inv .2)))
 
 cast-i : tie.Need-cast-i Inv-loop μ-loop
 cast-i c = omega (arith, c .before .before .before .fill-page .ensures .index)
 
 add-p : tie.Need-add-p Inv-loop μ-loop
-add-p c = omega (arith, c .before .before .before .before .before .before .before .before .before .before .before .before .if1 .left, c .before .before .before .before .before .before .before .before .before .before .before .before .before .before .loop .inv .0)
+add-p c =
+    let at-if1 = c .before .before .before .before .before .before .before .before .before .before .before .before in
+    let at-loop = at-if1 .before .before in
+    omega (arith, at-if1 .if1 .left, at-loop .loop .inv .0)
 
 loop-again : tie.Need-loop-again Inv-loop μ-loop
-loop-again c = (c .before .before .before .before .before .before .before .before .before .before .before .before .before .before .loop .inv .0, omega (arith, c .before .before .before .before .before .before .before .before .before .before .before .before .if1 .left, c .before .before .before .before .before .before .before .before .before .before .before .before .before .before .loop .inv .0), block.page-ends _ _ (c .before .before .before .before .before .before .before .before .before .before .before .before .before .before .before .before .before .pre) _ (c .before .before .before .before .before .before .before .before .before .before .before .before .if1 .left) _ (c .before .before .before .before .before .before .before .before .before .before .before .open-at .ensures) _ (c .before .before .before .before .before .before .before .before .before .pg .given .1) _ (c .before .before .before .before .before .before .before .source-of .ensures) _ _ _ _ _ (c .before .before .before .before .before .before .before .before .before .before .before .before .before .before .loop .inv .2) _ _ (c .before .before .before .before .before .fill-page .ensures) (c .enum-told .given .1))
+loop-again c =
+    let at-fill-page = c .before .before .before .before .before in
+    let at-source-of = at-fill-page .before .before in
+    let at-pg = at-source-of .before .before in
+    let at-open-at = at-pg .before .before in
+    let at-if1 = at-open-at .before in
+    let at-loop = at-if1 .before .before in
+    let begins = at-loop .before .before .before in
+    (at-loop .loop .inv .0, omega (arith, at-if1 .if1 .left, at-loop .loop .inv .0), block.page-ends _ _ (begins .pre) _ (at-if1 .if1 .left) _ (at-open-at .open-at .ensures) _ (at-pg .pg .given .1) _ (at-source-of .source-of .ensures) _ _ _ _ _ (at-loop .loop .inv .2) _ _ (at-fill-page .fill-page .ensures) (c .enum-told .given .1))
 
 same-length-3 : tie.Need-same-length-3 Inv-loop μ-loop
-same-length-3 c = block.page-length _ _ (c .before .before .before .before .before .before .before .before .before .before .before .before .before .before .before .before .before .pre) _ (c .before .before .before .before .before .before .before .before .before .before .before .before .if1 .left) _ (c .before .before .before .before .before .before .before .before .before .before .before .open-at .ensures) _ (c .before .before .before .before .before .before .before .before .before .pg .given .1) _ (c .before .before .before .before .before .before .before .source-of .ensures) _ _ _ _ _ (c .before .before .before .before .before .before .before .before .before .before .before .before .before .before .loop .inv .2) _ _ (c .before .before .before .before .before .fill-page .ensures)
+same-length-3 c =
+    let at-fill-page = c .before .before .before .before .before in
+    let at-source-of = at-fill-page .before .before in
+    let at-pg = at-source-of .before .before in
+    let at-open-at = at-pg .before .before in
+    let at-if1 = at-open-at .before in
+    let at-loop = at-if1 .before .before in
+    let begins = at-loop .before .before .before in
+    block.page-length _ _ (begins .pre) _ (at-if1 .if1 .left) _ (at-open-at .open-at .ensures) _ (at-pg .pg .given .1) _ (at-source-of .source-of .ensures) _ _ _ _ _ (at-loop .loop .inv .2) _ _ (at-fill-page .fill-page .ensures)
 
 returns-3 : tie.Need-returns-3 Inv-loop μ-loop
 returns-3 c =
+    let at-fill-page = c .before .before .before .before .before in
+    let at-source-of = at-fill-page .before .before in
+    let at-pg = at-source-of .before .before in
+    let at-open-at = at-pg .before .before in
+    let at-if1 = at-open-at .before in
+    let at-loop = at-if1 .before .before in
+    let begins = at-loop .before .before .before in
     block.told-is _ _ _ _ _ _ (c .stopped3 .ensures)
-    ∙ block.page-stops _ _ (c .before .before .before .before .before .before .before .before .before .before .before .before .before .before .before .before .before .pre) _ (c .before .before .before .before .before .before .before .before .before .before .before .before .if1 .left) _ (c .before .before .before .before .before .before .before .before .before .before .before .open-at .ensures) _ (c .before .before .before .before .before .before .before .before .before .pg .given .1) _ (c .before .before .before .before .before .before .before .source-of .ensures) _ _ _ _ _ (c .before .before .before .before .before .before .before .before .before .before .before .before .before .before .loop .inv .2) _ _ (c .before .before .before .before .before .fill-page .ensures) (block.not-end (tagOf the-type) _ refl (c .before .match2 .keys2))
+    ∙ block.page-stops _ _ (begins .pre) _ (at-if1 .if1 .left) _ (at-open-at .open-at .ensures) _ (at-pg .pg .given .1) _ (at-source-of .source-of .ensures) _ _ _ _ _ (at-loop .loop .inv .2) _ _ (at-fill-page .fill-page .ensures) (block.not-end (tagOf the-type) _ refl (c .before .match2 .keys2))
 
 same-length-4 : tie.Need-same-length-4 Inv-loop μ-loop
 same-length-4 c = block.same-length _ _ _ _ _ _ _ _ (c .before .before .loop .inv .2)

@@ -25,34 +25,68 @@ loop-holds c =
     turns.sets-out _ _ _ _ _ (a .pre .1) _ (c .before .before .entry-at .ensures) (search needs) (let g = a .good .1 .0 in search needs) (c .if1 .left)
 
 function-to-requires : tie.Need-function-to-requires Inv-loop μ-loop
-function-to-requires c κs = (c .before .before .before .before .before .before .before .before .before .before .pre .0, turns.entry-there _ _ _ _ _ (c .before .before .before .before .before .before .before .before .before .before .pre .1) _ (c .before .before .before .before .before .before .least .ensures) _ _ _ _ (c .before .before .loop .inv) (c .before .loop-test .taken), c .before .before .loop .inv .start)
+function-to-requires c κs =
+    let at-least = c .before .before .before .before .before .before in
+    let begins = at-least .before .before .before .before in
+    (begins .pre .0, turns.entry-there _ _ _ _ _ (begins .pre .1) _ (at-least .least .ensures) _ _ _ _ (c .before .before .loop .inv) (c .before .loop-test .taken), c .before .before .loop .inv .start)
 
 same-length : tie.Need-same-length Inv-loop μ-loop
 same-length c = c .before .before .before .before .before .before .before .loop .inv .list
 
 returns-2 : tie.Need-returns-2 Inv-loop μ-loop
-returns-2 c = turns.one-refused _ _ _ _ _ (c .before .before .before .before .before .before .before .before .before .before .before .before .before .before .before .pre .1) _ (c .before .before .before .before .before .before .before .before .before .before .before .least .ensures) _ _ _ _ (c .before .before .before .before .before .before .before .loop .inv) (c .before .before .before .before .before .before .loop-test .taken) _ (c .before .before .before .before .before .entry-at2 .ensures) _ (c .before .before .before .before .function-to .ensures) _ (c .before .before .error .given .1) _ (c .page-stopped2 .ensures)
+returns-2 c =
+    let at-function-to = c .before .before .before .before in
+    let at-entry-at2 = at-function-to .before in
+    let at-loop-test = at-entry-at2 .before in
+    let at-loop = at-loop-test .before in
+    let at-least = at-loop .before .before .before .before in
+    let begins = at-least .before .before .before .before in
+    turns.one-refused _ _ _ _ _ (begins .pre .1) _ (at-least .least .ensures) _ _ _ _ (at-loop .loop .inv) (at-loop-test .loop-test .taken) _ (at-entry-at2 .entry-at2 .ensures) _ (at-function-to .function-to .ensures) _ (c .before .before .error .given .1) _ (c .page-stopped2 .ensures)
 
 put-requires : tie.Need-put-requires Inv-loop μ-loop
-put-requires c κs = omega (arith, c .before .before .before .before .before .before .before .loop .inv .list, turns.room-there _ _ _ _ _ (c .before .before .before .before .before .before .before .before .before .before .before .before .before .before .before .pre .1) _ (c .before .before .before .before .before .before .before .before .before .before .before .least .ensures) _ _ _ _ (c .before .before .before .before .before .before .before .loop .inv) (c .before .before .before .before .before .before .loop-test .taken))
+put-requires c κs =
+    let at-loop-test = c .before .before .before .before .before .before in
+    let at-loop = at-loop-test .before in
+    let at-least = at-loop .before .before .before .before in
+    let begins = at-least .before .before .before .before in
+    omega (arith, at-loop .loop .inv .list, turns.room-there _ _ _ _ _ (begins .pre .1) _ (at-least .least .ensures) _ _ _ _ (at-loop .loop .inv) (at-loop-test .loop-test .taken))
 
 add-k : tie.Need-add-k Inv-loop μ-loop
-add-k c = omega (arith, c .before .before .before .before .before .before .before .before .before .before .loop .inv .room, c .before .before .before .before .before .before .before .before .before .before .before .before .before .before .before .before .before .before .good .1 .1 .1 .1 .0)
+add-k c =
+    let at-loop = c .before .before .before .before .before .before .before .before .before .before in
+    let begins = at-loop .before .before .before .before .before .before .before .before in
+    omega (arith, at-loop .loop .inv .room, begins .good .1 .1 .1 .1 .0)
 
 loop-again : tie.Need-loop-again Inv-loop μ-loop
-loop-again c = rw (c .before .before .put .ensures) (turns.one-more _ _ _ _ _ (c .before .before .before .before .before .before .before .before .before .before .before .before .before .before .before .before .before .before .pre .1) _ (c .before .before .before .before .before .before .before .before .before .before .before .before .before .before .least .ensures) _ _ _ _ (c .before .before .before .before .before .before .before .before .before .before .loop .inv) (c .before .before .before .before .before .before .before .before .before .loop-test .taken) _ (c .before .before .before .before .before .before .before .before .entry-at2 .ensures) _ (c .before .before .before .before .before .before .before .function-to .ensures) _ (c .before .before .before .before .before .f .given .1))
+loop-again c =
+    let at-f = c .before .before .before .before .before in
+    let at-function-to = at-f .before .before in
+    let at-entry-at2 = at-function-to .before in
+    let at-loop-test = at-entry-at2 .before in
+    let at-loop = at-loop-test .before in
+    let at-least = at-loop .before .before .before .before in
+    let begins = at-least .before .before .before .before in
+    rw (c .before .before .put .ensures) (turns.one-more _ _ _ _ _ (begins .pre .1) _ (at-least .least .ensures) _ _ _ _ (at-loop .loop .inv) (at-loop-test .loop-test .taken) _ (at-entry-at2 .entry-at2 .ensures) _ (at-function-to .function-to .ensures) _ (at-f .f .given .1))
 
 same-length-2 : tie.Need-same-length-2 Inv-loop μ-loop
 same-length-2 c = c .before .before .before .loop .inv .list
 
 returns-3 : tie.Need-returns-3 Inv-loop μ-loop
-returns-3 c = turns.page-ends _ _ _ _ _ (c .before .before .before .before .before .before .before .before .before .before .before .pre .1) _ (c .before .before .before .before .before .before .before .least .ensures) _ _ _ _ (c .before .before .before .loop .inv) (c .before .before .loop-test .left) (c .before .if2 .taken) _ (c .page-stopped3 .ensures)
+returns-3 c =
+    let at-loop = c .before .before .before in
+    let at-least = at-loop .before .before .before .before in
+    let begins = at-least .before .before .before .before in
+    turns.page-ends _ _ _ _ _ (begins .pre .1) _ (at-least .least .ensures) _ _ _ _ (at-loop .loop .inv) (c .before .before .loop-test .left) (c .before .if2 .taken) _ (c .page-stopped3 .ensures)
 
 same-length-3 : tie.Need-same-length-3 Inv-loop μ-loop
 same-length-3 c = c .before .before .before .loop .inv .list
 
 returns-4 : tie.Need-returns-4 Inv-loop μ-loop
-returns-4 c = turns.room-ends _ _ _ _ _ (c .before .before .before .before .before .before .before .before .before .before .before .pre .1) _ (c .before .before .before .before .before .before .before .least .ensures) _ _ _ _ (c .before .before .before .loop .inv) (c .before .if2 .left) _ (c .page-stopped4 .ensures)
+returns-4 c =
+    let at-loop = c .before .before .before in
+    let at-least = at-loop .before .before .before .before in
+    let begins = at-least .before .before .before .before in
+    turns.room-ends _ _ _ _ _ (begins .pre .1) _ (at-least .least .ensures) _ _ _ _ (at-loop .loop .inv) (c .before .if2 .left) _ (c .page-stopped4 .ensures)
 
 pub fill-page-spec : {M : Type 1} → statement M
 fill-page-spec =

@@ -24,11 +24,12 @@ abbrev μ-loop : tie.MeasureT-loop
 
 -- the bytes that are lent are bytes
 loop-holds : tie.Need-loop-holds Inv-loop μ-loop
-loop-holds c =
-    (c .before .room-for-text .ensures,
-    ap (λ (p : Place). counted 0 (length (textFrom (now (c .before .before .before .args .s)) p))) (c .start-place .ensures)
-    ∙ ap (λ (l : List ℕ). counted 0 (length l)) (all-from-the-start (now (c .before .before .before .args .s)) (λ i. omega (arith, c .before .before .shared-slice-known .given i))),
-    omega arith)
+loop-holds c = (
+  c .before .room-for-text .ensures,
+  ap (λ (p : Place). counted 0 (length (textFrom (now (c .before .before .before .args .s)) p))) (c .start-place .ensures)
+      ∙ ap (λ (l : List ℕ). counted 0 (length l)) (all-from-the-start (now (c .before .before .before .args .s)) (λ i. omega (arith, c .before .before .shared-slice-known .given i))),
+  omega arith,
+)
 
 same-room : tie.Need-slice-aggregate-part Inv-loop μ-loop
 same-room c = omega (arith, c .before .before .before .before .before .before .loop .inv .0, c .before .text2 .given)
@@ -45,10 +46,11 @@ loop-again c =
     let block = c .before .before .before .before .before .before in
     let turn = block .before .before in
     let before = turn .before .before .loop .inv in
-    let room : 52 ≤ length (turn .before .before .loop .text) = omega (arith, before .0) in
-    (omega (arith, before .0, c .before .before .before .before .before .text2 .given),
-    omega (arith, before .1, c .before .count .ensures, shorter _ _ _ (not-true _ (turn .if1 .taken)) room _ _ (block .write-block .ensures)),
-    omega (arith, c .before .count .ensures))
+    let room : 52 ≤ length (turn .before .before .loop .text) = omega (arith, before .0) in (
+      omega (arith, before .0, c .before .before .before .before .before .text2 .given),
+      omega (arith, before .1, c .before .count .ensures, shorter _ _ _ (not-true _ (turn .if1 .taken)) room _ _ (block .write-block .ensures)),
+      omega (arith, c .before .count .ensures),
+    )
 
 returns : tie.Need-returns Inv-loop μ-loop
 returns c =

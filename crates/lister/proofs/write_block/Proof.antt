@@ -18,9 +18,11 @@ lent : tie.Need-slice-aggregate-write-functions
 lent c = sym (numbers-lent _ _ _ (c .before .before .room-for-numbers .ensures) refl (omega arith))
 
 write-functions-requires : tie.Need-write-functions-requires
-write-functions-requires c κs =
-    (accepted-parses _ _ (sym (c .before .before .before .before .before .before .before .accept .ensures) ∙ ap acceptedTold (c .before .before .before .before .before .lists .given .1)) .0,
-    omega arith, numbers-lent _ _ _ (c .before .before .before .room-for-numbers .ensures) (c .before .before .room-in .ensures) (omega arith))
+write-functions-requires c κs = (
+  accepted-parses _ _ (sym (c .before .before .before .before .before .before .before .accept .ensures) ∙ ap acceptedTold (c .before .before .before .before .before .lists .given .1)) .0,
+  omega arith,
+  numbers-lent _ _ _ (c .before .before .before .room-for-numbers .ensures) (c .before .before .room-in .ensures) (omega arith),
+)
 
 returns-3 : tie.Need-returns-3
 returns-3 c =

@@ -23,8 +23,11 @@ add-written c =
     let fills = counts .before .before .before .before in
     let begins = fills .before .before .before .before .before .before in
     let g = begins .good .1 .1 .1 .1 in
-    omega (arith, bytes-inside _ _ (begins .pre .0) (begins .args .at) _ _ (begins .pre .1) (begins .pre .2) (fills .fill-in .result) _ (fills .fill-in .ensures)
-    _ _ (lines .write-lines .ensures) _ (counts .count .ensures) _ _ (stops .write-stop .ensures))
+    omega (
+      arith,
+      bytes-inside _ _ (begins .pre .0) (begins .args .at) _ _ (begins .pre .1) (begins .pre .2) (fills .fill-in .result) _ (fills .fill-in .ensures)
+          _ _ (lines .write-lines .ensures) _ (counts .count .ensures) _ _ (stops .write-stop .ensures),
+    )
 
 returns : tie.Need-returns
 returns c =

@@ -22,23 +22,49 @@ inside-requires c κs = globals-inside _ _ (c .before .before .before .before .b
 
 sub-in-page : tie.Need-sub-in-page
 sub-in-page c =
-    let h = starts _ _ _ (c .before .before .before .before .before .before .before .before .before .before .pre .0) 0 _ 0 _ _ (first-at _ _ (c .before .before .before .before .before .before .before .before .before .before .pre .1) _ (c .before .before .before .before .before .before .before .before .before .before .pre .0) _ _ (c .before .before .before .before .before .before .before .four .ensures)) (offset-at _ _ (c .before .before .before .before .before .before .before .before .before .before .pre .1) _ (c .before .before .before .before .before .before .before .before .before .before .pre .0) _ _ (c .before .before .before .before .before .before .four2 .ensures)) _ (c .before .before .before .before .read-page .ensures) _ (c .before .before .pg .given .1) in
+    let at-read-page = c .before .before .before .before in
+    let at-four2 = at-read-page .before .before in
+    let at-four = at-four2 .before in
+    let begins = at-four .before .before .before in
+    let h = starts _ _ _ (begins .pre .0) 0 _ 0 _ _ (first-at _ _ (begins .pre .1) _ (begins .pre .0) _ _ (at-four .four .ensures)) (offset-at _ _ (begins .pre .1) _ (begins .pre .0) _ _ (at-four2 .four2 .ensures)) _ (at-read-page .read-page .ensures) _ (c .before .before .pg .given .1) in
     omega (arith, h)
 
 part-in-page-start : tie.Need-part-in-page-start
 part-in-page-start c =
-    let h = starts _ _ _ (c .before .before .before .before .before .before .before .before .before .before .pre .0) 0 _ 0 _ _ (first-at _ _ (c .before .before .before .before .before .before .before .before .before .before .pre .1) _ (c .before .before .before .before .before .before .before .before .before .before .pre .0) _ _ (c .before .before .before .before .before .before .before .four .ensures)) (offset-at _ _ (c .before .before .before .before .before .before .before .before .before .before .pre .1) _ (c .before .before .before .before .before .before .before .before .before .before .pre .0) _ _ (c .before .before .before .before .before .before .four2 .ensures)) _ (c .before .before .before .before .read-page .ensures) _ (c .before .before .pg .given .1) in
+    let at-read-page = c .before .before .before .before in
+    let at-four2 = at-read-page .before .before in
+    let at-four = at-four2 .before in
+    let begins = at-four .before .before .before in
+    let h = starts _ _ _ (begins .pre .0) 0 _ 0 _ _ (first-at _ _ (begins .pre .1) _ (begins .pre .0) _ _ (at-four .four .ensures)) (offset-at _ _ (begins .pre .1) _ (begins .pre .0) _ _ (at-four2 .four2 .ensures)) _ (at-read-page .read-page .ensures) _ (c .before .before .pg .given .1) in
     search needs
 
 in-page-requires : tie.Need-in-page-requires
-in-page-requires c κs = (c .before .before .before .before .before .before .before .before .before .before .before .pre .3, its-list _ _ _ (c .before .before .before .before .before .before .before .before .before .before .before .pre .0) 0 _ 0 _ _ (first-at _ _ (c .before .before .before .before .before .before .before .before .before .before .before .pre .1) _ (c .before .before .before .before .before .before .before .before .before .before .before .pre .0) _ _ (c .before .before .before .before .before .before .before .before .four .ensures)) (offset-at _ _ (c .before .before .before .before .before .before .before .before .before .before .before .pre .1) _ (c .before .before .before .before .before .before .before .before .before .before .before .pre .0) _ _ (c .before .before .before .before .before .before .before .four2 .ensures)) _ (c .before .before .before .before .before .read-page .ensures) _ (c .before .before .before .pg .given .1))
+in-page-requires c κs =
+    let at-pg = c .before .before .before in
+    let at-read-page = at-pg .before .before in
+    let at-four2 = at-read-page .before .before in
+    let at-four = at-four2 .before in
+    let begins = at-four .before .before .before in
+    (begins .pre .3, its-list _ _ _ (begins .pre .0) 0 _ 0 _ _ (first-at _ _ (begins .pre .1) _ (begins .pre .0) _ _ (at-four .four .ensures)) (offset-at _ _ (begins .pre .1) _ (begins .pre .0) _ _ (at-four2 .four2 .ensures)) _ (at-read-page .read-page .ensures) _ (at-pg .pg .given .1))
 
 returns : tie.Need-returns
 unfolding globalsOf
-returns c = page-searched _ _ _ (c .before .before .before .before .before .before .before .before .before .before .before .before .pre .0) _ _ _ _ _ (first-at _ _ (c .before .before .before .before .before .before .before .before .before .before .before .before .pre .1) _ (c .before .before .before .before .before .before .before .before .before .before .before .before .pre .0) _ _ (c .before .before .before .before .before .before .before .before .before .four .ensures)) (offset-at _ _ (c .before .before .before .before .before .before .before .before .before .before .before .before .pre .1) _ (c .before .before .before .before .before .before .before .before .before .before .before .before .pre .0) _ _ (c .before .before .before .before .before .before .before .before .four2 .ensures)) _ (c .before .before .before .before .before .before .read-page .ensures) _ (c .before .before .before .before .pg .given .1) _ _ _ (c .before .before .inside .ensures) (next-at _ _ (c .before .before .before .before .before .before .before .before .before .before .before .before .pre .1) _ (c .before .before .before .before .before .before .before .before .before .before .before .before .pre .0) _ _ (c .before .before .before .before .before .before .before .four3 .ensures)) (c .in-page .ensures)
+returns c =
+    let at-pg = c .before .before .before .before in
+    let at-read-page = at-pg .before .before in
+    let at-four3 = at-read-page .before in
+    let at-four2 = at-four3 .before in
+    let at-four = at-four2 .before in
+    let begins = at-four .before .before .before in
+    page-searched _ _ _ (begins .pre .0) _ _ _ _ _ (first-at _ _ (begins .pre .1) _ (begins .pre .0) _ _ (at-four .four .ensures)) (offset-at _ _ (begins .pre .1) _ (begins .pre .0) _ _ (at-four2 .four2 .ensures)) _ (at-read-page .read-page .ensures) _ (at-pg .pg .given .1) _ _ _ (c .before .before .inside .ensures) (next-at _ _ (begins .pre .1) _ (begins .pre .0) _ _ (at-four3 .four3 .ensures)) (c .in-page .ensures)
 
 returns-2 : tie.Need-returns-2
-returns-2 c = page-refused _ _ _ (c .before .before .before .before .before .before .before .before .before .pre .0) _ _ _ _ _ (first-at _ _ (c .before .before .before .before .before .before .before .before .before .pre .1) _ (c .before .before .before .before .before .before .before .before .before .pre .0) _ _ (c .before .before .before .before .before .before .four .ensures)) (offset-at _ _ (c .before .before .before .before .before .before .before .before .before .pre .1) _ (c .before .before .before .before .before .before .before .before .before .pre .0) _ _ (c .before .before .before .before .before .four2 .ensures)) _ (c .before .before .before .read-page .ensures) _ (c .before .error .given .1)
+returns-2 c =
+    let at-read-page = c .before .before .before in
+    let at-four2 = at-read-page .before .before in
+    let at-four = at-four2 .before in
+    let begins = at-four .before .before .before in
+    page-refused _ _ _ (begins .pre .0) _ _ _ _ _ (first-at _ _ (begins .pre .1) _ (begins .pre .0) _ _ (at-four .four .ensures)) (offset-at _ _ (begins .pre .1) _ (begins .pre .0) _ _ (at-four2 .four2 .ensures)) _ (at-read-page .read-page .ensures) _ (c .before .error .given .1)
 
 pub at-page-spec : {M : Type 1} → statement M
 at-page-spec =
