@@ -1,12 +1,14 @@
 #!/usr/bin/env python3
-"""Holds include/brasspurse.h to the library's sources, to the library and to the C test.
+"""Holds include/brasspurse.h to the library's sources, and to the library and the C test.
 
-    c/agree.py DEFINED CALLED
+    c/agree.py                  to the sources alone, as the gate does: it needs no compiler
+    c/agree.py DEFINED CALLED   to the library and the test too
 
-DEFINED is the output of `nm -P` on what libexports.a defines, CALLED on what the test's object
-takes from elsewhere. Compared are the functions' names with both; with the sources in crates/
-also their parameters and what they return, and every field of every struct. What differs is
-printed, and the exit status is 1. So it is for a line of either side that is not understood.
+Compared with the sources in crates/ are the functions, their parameters and what they return, and
+every field of every struct, in their order. DEFINED is the output of `nm -P` on what libexports.a
+defines, CALLED on what the test's object takes from elsewhere: with these, the functions' names
+are compared. What differs is printed, and the exit status is 1. So it is for a line of either side
+that is not understood.
 """
 
 import re
@@ -357,16 +359,16 @@ def symbols(path):
 
 
 def main():
-    if len(sys.argv) != 3:
+    if len(sys.argv) not in (1, 3):
         sys.exit(__doc__.strip())
     header, library = Header(HEADER), Library(CRATES)
     names = dict.fromkeys(header.functions)
     lines = [
         *differences("function", library.functions, header.functions, "the sources"),
         *differences("struct", library.structs, header.structs, "the sources"),
-        *differences("function", symbols(sys.argv[1]), names, "the library"),
-        *differences("function", symbols(sys.argv[2]), names, "what the test calls"),
     ]
+    for path, place in zip(sys.argv[1:], ("the library", "what the test calls")):
+        lines += differences("function", symbols(path), names, place)
     for line in lines:
         print(line)
     if lines:

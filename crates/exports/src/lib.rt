@@ -5,4 +5,3 @@ pub mod reads;
 pub mod sections;
 pub mod unwind;
 pub mod words;
-// .
