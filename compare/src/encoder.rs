@@ -113,10 +113,10 @@ fn index(list: &[u8; 6]) -> usize {
 }
 
 /// For each count up to 6 and each list, the encoding that the Rust decodes to it, if any.
-struct Expected(Vec<Vec<Option<u32>>>);
+pub struct Expected(Vec<Vec<Option<u32>>>);
 
 impl Expected {
-    fn new() -> Self {
+    pub fn new() -> Self {
         let mut rows = vec![vec![None; LISTS]; 7];
         // Every encoding of count 0 decodes to the zeros; document 01 gives them 0.
         rows[0][0] = Some(0);
@@ -130,7 +130,7 @@ impl Expected {
         Expected(rows)
     }
 
-    fn answer(&self, count: u32, list: &[u8; 6]) -> Encoding {
+    pub fn answer(&self, count: u32, list: &[u8; 6]) -> Encoding {
         let small = list.iter().all(|&number| number < 8);
         let row = self.0.get(count as usize).filter(|_| small);
         match row.and_then(|row| row[index(list)]) {

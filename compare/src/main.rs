@@ -3,8 +3,9 @@
 //! `compare` counts equal and different answers, `sections` those on sections alone, `frames` those
 //! on frames alone, `unwind` those on lookups with a step alone, `program` the lines of the program
 //! that lists functions; `record FILE` and `record-sections FILE` write answers of the Rust for a
-//! replay, `record-frames FILE` those of a processor, `record-listings FOLDER` listings; `worst
-//! FILE` writes a section with a very long listing, `bench` measures both.
+//! replay, `record-frames FILE` those of a processor, `record-exports FOLDER` those of the model
+//! and the Rust on the other exports, `record-listings FOLDER` listings; `worst FILE` writes a
+//! section with a very long listing, `bench` measures both.
 
 mod bench;
 mod encoder;
@@ -42,6 +43,7 @@ fn main() -> ExitCode {
         ["record-sections", file] => done(record::sections::write(file)),
         ["record-frames", file] => done(record::frames::write(file)),
         ["record-listings", folder] => done(record::listings::write(folder)),
+        ["record-exports", folder] => done(record::exports::write(folder)),
         ["worst", file] => done(worst::write(file)),
         ["bench"] => done(bench::run("")),
         ["bench", word] => done(bench::run(word)),
@@ -49,7 +51,8 @@ fn main() -> ExitCode {
             eprintln!(
                 "usage: compare/run [compare | sections | frames | unwind | program COMMAND \
                  | record FILE | record-sections FILE | record-frames FILE \
-                 | record-listings FOLDER | worst FILE | bench [WORD]]"
+                 | record-exports FOLDER | record-listings FOLDER | worst FILE \
+                 | bench [WORD]]"
             );
             ExitCode::from(2)
         }

@@ -14,6 +14,7 @@ mod well_formed;
 use crate::ffi::section::{
     Cursor, FillAnswer, Lists, LookupAnswer, NextAnswer, ParseAnswer, RangeAnswer, FOUND, REFUSED,
 };
+pub use answers::batched;
 use answers::{filled, looked_up, stepped};
 use bytes::Bytes;
 use page::Page;

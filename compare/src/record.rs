@@ -4,6 +4,7 @@
 //! answer: case, two values, and six register numbers as bytes in two numbers.
 
 mod chosen;
+pub mod exports;
 pub mod frames;
 mod inputs;
 pub mod listings;

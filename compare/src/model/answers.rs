@@ -24,6 +24,14 @@ pub fn looked_up(answer: Result<Option<Function>, Refusal>, probes: u16) -> Look
     }
 }
 
+/// The four numbers of a batch's answer.
+pub fn batched(answer: LookupAnswer) -> [u32; 4] {
+    let outcome = 65_536 * u32::from(answer.outcome);
+    let refusal = 16_777_216 * u32::from(answer.refusal);
+    let last = u32::from(answer.probes) + outcome + refusal;
+    [answer.start, answer.end, answer.opcode, last]
+}
+
 pub fn stepped(answer: Result<Option<Function>, Refusal>, (page, index): Cursor) -> NextAnswer {
     let (outcome, refusal, (start, end, opcode)) = parts(answer);
     NextAnswer {

@@ -3,6 +3,7 @@
 use super::lookups::LookedUp;
 use crate::ffi::section::LookupAnswer;
 use crate::ffi::unwind::lookup_batch;
+use crate::model::batched;
 use crate::random::Random;
 use crate::sections::made::pick;
 use crate::sections::opened::Opened;
@@ -86,7 +87,7 @@ impl Batches {
         for (one, numbers) in asked.iter().zip(answers.chunks_exact(4)) {
             let input = || format!("{:#x} in {}", one.address, input());
             self.single.check(input, numbers, &bytes(one.ours));
-            self.model.check(input, numbers, &numbers_of(one.model));
+            self.model.check(input, numbers, &batched(one.model));
         }
     }
 
@@ -120,12 +121,4 @@ fn room(random: &mut Random, numbers: usize) -> usize {
 /// The 16 bytes of an answer as four numbers.
 fn bytes(answer: LookupAnswer) -> [u32; 4] {
     unsafe { std::mem::transmute(answer) }
-}
-
-/// The four numbers as they are told of.
-fn numbers_of(answer: LookupAnswer) -> [u32; 4] {
-    let outcome = 65_536 * u32::from(answer.outcome);
-    let refusal = 16_777_216 * u32::from(answer.refusal);
-    let last = u32::from(answer.probes) + outcome + refusal;
-    [answer.start, answer.end, answer.opcode, last]
 }

@@ -1,0 +1,45 @@
+//! Lists lent to write: 40 numbers that are 7 before the call, of which the first ones are lent.
+
+use super::calls::case;
+use crate::ffi::section::{Cursor, FillAnswer, LookupAnswer};
+use crate::model::{self, batched, Refusal, Section};
+
+/// What a call left.
+pub struct Left {
+    pub list: [u32; 40],
+    pub cases: Vec<u32>,
+}
+
+impl Left {
+    fn new() -> Self {
+        Left {
+            list: [7; 40],
+            cases: Vec::new(),
+        }
+    }
+
+    /// The numbers after those of the answer itself.
+    pub fn after<const N: usize>(&self, answer: [u64; N]) -> Vec<u64> {
+        let list = self.list.iter().copied().map(u64::from);
+        answer.into_iter().chain(list).collect()
+    }
+}
+
+pub fn fill(section: &Result<Section, Refusal>, cursor: Cursor, room: usize) -> (FillAnswer, Left) {
+    let mut left = Left::new();
+    let answer = model::fill(section, cursor, &mut left.list[..room]);
+    left.cases.push(case(answer.outcome, answer.refusal));
+    (answer, left)
+}
+
+/// How many were answered comes first.
+pub fn batch(answers: &[LookupAnswer], room: usize) -> (usize, Left) {
+    let mut left = Left::new();
+    let places = left.list[..room].chunks_exact_mut(4);
+    let answered = places.len().min(answers.len());
+    for (place, answer) in places.zip(answers) {
+        place.copy_from_slice(&batched(*answer));
+        left.cases.push(case(answer.outcome, answer.refusal));
+    }
+    (answered, left)
+}
