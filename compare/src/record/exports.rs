@@ -1,9 +1,10 @@
 //! Answers of the exports that no other replay calls, as a program's input and output.
 //!
-//! A record of the input is a tag and a number of bytes, both little-endian numbers of 32 bits,
-//! and then so many bytes: a section that the records after it are about, or what a call takes. A
-//! line of the output is a call's name and the numbers of its answer in hexadecimal, a struct's in
-//! the header's order, after them those of a list that was lent to write.
+//! The input has the place of the first record, the sections' bytes, and then the records: a tag,
+//! the section's place and length, the number of bytes that the call takes, all little-endian
+//! numbers of 32 bits, the call's name in 20 bytes, and those bytes. A line of the output is the
+//! call's name and the numbers of its answer in hexadecimal, a struct's in the header's order,
+//! after them those of a list that was lent to write.
 //!
 //! All answers are the model's or the Rust's, and where both answer, they must say the same. Ours
 //! are not asked.
@@ -21,16 +22,19 @@ use std::fmt::{Debug, Write};
 use std::io::{Error, Result};
 use std::path::Path;
 
-const SECTION: u32 = 0;
+/// Bytes that a call's name takes, the rest of them blanks.
+const NAME: usize = 20;
 /// Bytes that the input may have.
 const ROOM: usize = 65_536;
 
 #[derive(Default)]
 struct Files {
-    input: Vec<u8>,
+    sections: Vec<u8>,
+    records: Vec<u8>,
     output: String,
-    /// The last section written.
-    section: Option<Vec<u8>>,
+    /// The last section written, and its place in the input.
+    section: Vec<u8>,
+    place: u32,
     /// How often each case of each call was met.
     met: BTreeMap<(u32, u32), usize>,
 }
@@ -43,11 +47,12 @@ pub fn write(folder: &str) -> Result<()> {
     frames::record(&mut out)?;
     out.is_complete()?;
     let folder = Path::new(folder);
-    std::fs::write(folder.join("stdin"), &out.input)?;
+    let input = out.input();
+    std::fs::write(folder.join("stdin"), &input)?;
     std::fs::write(folder.join("stdout"), &out.output)?;
     println!(
         "{} bytes of input and {} lines of output written to {}",
-        out.input.len(),
+        input.len(),
         out.output.lines().count(),
         folder.display()
     );
@@ -55,11 +60,17 @@ pub fn write(folder: &str) -> Result<()> {
 }
 
 impl Files {
+    fn input(&self) -> Vec<u8> {
+        let first = 4 + self.sections.len() as u32;
+        [&u32s(&[first]), &self.sections, &self.records].map(Vec::as_slice).concat()
+    }
+
     /// The section that the records from here on are about.
     fn about(&mut self, section: &[u8]) {
-        if self.section.as_deref() != Some(section) {
-            self.bytes(SECTION, section);
-            self.section = Some(section.to_vec());
+        if self.section != section {
+            self.place = 4 + self.sections.len() as u32;
+            self.sections.extend_from_slice(section);
+            self.section = section.to_vec();
         }
     }
 
@@ -71,8 +82,12 @@ impl Files {
         cases: &[u32],
         numbers: impl IntoIterator<Item = u64>,
     ) {
-        self.bytes(call.tag, asked);
-        self.output += call.name;
+        let section = [self.place, self.section.len() as u32];
+        self.records.extend(u32s(&[call.tag, section[0], section[1], asked.len() as u32]));
+        let name = format!("{:NAME$}", call.name);
+        self.records.extend_from_slice(name.as_bytes());
+        self.records.extend_from_slice(asked);
+        self.output += &name;
         for number in numbers {
             write!(self.output, " {number:x}").expect("a String takes all");
         }
@@ -80,11 +95,6 @@ impl Files {
         for &case in cases {
             *self.met.entry((call.tag, case)).or_insert(0) += 1;
         }
-    }
-
-    fn bytes(&mut self, tag: u32, bytes: &[u8]) {
-        self.input.extend(u32s(&[tag, bytes.len() as u32]));
-        self.input.extend_from_slice(bytes);
     }
 
     fn has_met(&self, call: &Call, case: u32) -> bool {
@@ -101,8 +111,9 @@ impl Files {
                 }
             }
         }
-        if self.input.len() > ROOM {
-            return Err(Error::other(format!("{} bytes", self.input.len())));
+        let bytes = self.input().len();
+        if bytes > ROOM {
+            return Err(Error::other(format!("{bytes} bytes")));
         }
         Ok(())
     }

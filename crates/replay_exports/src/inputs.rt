@@ -1,4 +1,6 @@
 // Numbers in a record.
+ghost use Prim.Native.Nat.{_+_, _*_, _≤_};
+ghost use lib.ListN.{length};
 ghost use Rattle.io.specs.Counts.{Counts};
 use reader::Read64;
 
@@ -7,6 +9,17 @@ pub fn number(asked: &[u8], at: usize) -> u64 {
         return 0;
     };
     x
+}
+
+// As many numbers as there is room for.
+pub(crate) fn load(asked: &[u8], at: usize, into: &mut [u64])
+    requires { ⌜ at + 8 * length (now into) ≤ 1000 ⌝ }
+{
+    let mut k = 0;
+    while k < into.len() {
+        into[k] = number(asked, at + 8 * k);
+        k += 1;
+    }
 }
 
 // How many numbers of a list the record asks for, at a place of the record; at most all of them.

@@ -48,7 +48,7 @@ impl<'a> Given<'a> {
         Given::new(section, lists([4, 8, 20, 24].map(number)))
     }
 
-    /// The numbers given, then the lists.
+    /// The lists, then the numbers given.
     fn asked(&self, numbers: &[u32]) -> Vec<u8> {
         let Lists {
             global_opcodes_offset,
@@ -57,7 +57,7 @@ impl<'a> Given<'a> {
             pages_len,
         } = self.lists;
         let globals = [global_opcodes_offset, global_opcodes_len];
-        u32s(&[numbers, &globals, &[pages_offset, pages_len]].concat())
+        u32s(&[&globals, &[pages_offset, pages_len], numbers].concat())
     }
 
     fn range(&self, out: &mut Files) {
@@ -97,7 +97,7 @@ impl<'a> Given<'a> {
 
     fn fill(&self, out: &mut Files, cursor: Cursor, room: usize) -> Cursor {
         let (answer, left) = lent::fill(&self.model, cursor, room);
-        let asked = self.asked(&[cursor.0, cursor.1, room as u32]);
+        let asked = [u32s(&[room as u32, cursor.0, cursor.1]), self.asked(&[])].concat();
         out.about(self.section);
         out.record(
             &calls::FILL_IN,
@@ -134,7 +134,7 @@ fn flat(answer: FillAnswer) -> [u64; 5] {
 /// By the header's lists.
 fn fill(out: &mut Files, section: &[u8], cursor: Cursor, room: usize) -> Cursor {
     let (answer, left) = lent::fill(&Section::parse(section), cursor, room);
-    let asked = u32s(&[cursor.0, cursor.1, room as u32]);
+    let asked = u32s(&[room as u32, cursor.0, cursor.1]);
     out.about(section);
     out.record(&calls::FILL, &asked, &left.cases, left.after(flat(answer)));
     (answer.page, answer.index)
