@@ -1,6 +1,6 @@
 -- A lookup probes at most the bit length of the page count and, if a page was searched, that of its function count.
 -- Assumes nothing.
-use Prim.Native.Nat.{ℕ, _+_, _-_, _*_, _^_, _≤_, _<_, zero-le}
+use Prim.Native.Nat.{ℕ, _+_, _-_, _^_, _≤_, _<_, zero-le}
 use mathlib.Core.Path.{_≡_, refl}
 use mathlib.Core.Bool.{Bool, true, false, cond}
 use mathlib.Core.List.{List}
@@ -15,7 +15,7 @@ use lib.Pow.{pow-mono}
 use Rattle.reader.proofs.Laws.{fits}
 use Rattle.search.specs.declared.Spot.{Spot}
 use Rattle.search.specs.declared.Layout.{Layout}
-use Rattle.search.specs.Search.{sizeOf, countOf, keyOf, searchOf}
+use Rattle.search.specs.Search.{countOf, keyOf, searchOf}
 use Rattle.search.proofs.Laws.{bits}
 use Rattle.search.proofs.Turns.{less-inside}
 use Rattle.raw.specs.declared.Lists.{Lists}
@@ -59,7 +59,8 @@ tells n (good f) = refl
 tells n (refused k) = refl
 
 -- the same test for the answer and for the count
-choose : (b : Bool) (x y : Looked) (j m n : ℕ) → probesOf x ≤ j + bitLength m → probesOf y ≤ j + bitLength n → probesOf (cond b x y) ≤ j + bitLength (cond b m n)
+choose : (b : Bool) (x y : Looked) (j m n : ℕ) → probesOf x ≤ j + bitLength m → probesOf y ≤ j + bitLength n
+    → probesOf (cond b x y) ≤ j + bitLength (cond b m n)
 choose true x y j m n h k = h
 choose false x y j m n h k = k
 
@@ -77,16 +78,18 @@ module _ (s : List ℕ) (l : Lists) (pc : ℕ) where
   in-page p probes (refused k) = omega arith
   in-page p probes (good pg) =
       let list = functionsOf (pageAt s l p) pg in
-      let h = in-list list (layout (pg .kind)) (pc - pg .base) (pg .«functions_len») (counted (layout (pg .kind)) (pageAt s l p) (pg .«functions_offset») (pg .«functions_len»)) in
-      same (eqb (searchOf list (layout (pg .kind)) (pc - pg .base) .at) 0) _ _ _ (omega arith) (rw tells (omega arith))
+      let lay = layout (pg .kind) in
+      let h = in-list list lay (pc - pg .base) (pg .«functions_len») (counted lay (pageAt s l p) (pg .«functions_offset») (pg .«functions_len»)) in
+      same (eqb (searchOf list lay (pc - pg .base) .at) 0) _ _ _ (omega arith) (rw tells (omega arith))
 
   pub probes : probesOf (lookupOf s l pc) ≤ mostProbes s pc l
   unfolding lookupOf fromPages atPage functionsSearched searchedAfter
   probes =
       let spot = searchOf (pagesOf s l) Layout.Pages pc in
+      let p = spot .at - 1 in
       let h = in-list (pagesOf s l) Layout.Pages pc (l .«pages_len») (few-pages s l (pagesOf s l) refl) in
       choose (eqb (spot .at) 0) _ _ _ 0 _ (omega arith)
-      (choose (eqb (spot .at) (l .«pages_len»)) _ _ _ 0 _ (omega arith) (omega (arith, in-page (spot .at - 1) (spot .probes) (pageOf s (offsetOf s l (spot .at - 1)) (firstOf s l (spot .at - 1))))))
+      (choose (eqb (spot .at) (l .«pages_len»)) _ _ _ 0 _ (omega arith) (omega (arith, in-page p (spot .probes) (pageOf s (offsetOf s l p) (firstOf s l p)))))
 
 -- over the bytes with the lists' places, and over the bytes alone: lists that are refused take no probe
 module _ (s : List ℕ) (pc : ℕ) where
@@ -123,10 +126,12 @@ module _ (s : List ℕ) (h : length s < 2 ^ 64) where
   unfolding functionsSearched
   few-searched l pc = few-after l (searchOf (pagesOf s l) Layout.Pages pc)
 
-  few : (t : Checked Lists) (pc : ℕ) → ((l : Lists) → t ≡ good l → grantOf s l ≡ good l) → probesOf (either (λ k. refusal k 0) (λ m. lookupOf s m pc) t) ≤ 128
+  few : (t : Checked Lists) (pc : ℕ) → ((l : Lists) → t ≡ good l → grantOf s l ≡ good l)
+      → probesOf (either (λ k. refusal k 0) (λ m. lookupOf s m pc) t) ≤ 128
   few (refused k) pc g = zero-le
   few (good l) pc g =
-      omega (arith, probes s l pc, size-le (functionsSearched s l pc) 64 (omega (arith, few-searched l pc)), size-le (l .«pages_len») 64 (omega (arith, fits _ s (l .«pages_offset») (granted s l l (g l refl) .2))))
+      let inside = fits _ s (l .«pages_offset») (granted s l l (g l refl) .2) in
+      omega (arith, probes s l pc, size-le (l .«pages_len») 64 (omega arith), size-le (functionsSearched s l pc) 64 (omega (arith, few-searched l pc)))
 
   pub few-on : (pc : ℕ) → probesOf (lookupOn s pc) ≤ 128
   unfolding lookupOn

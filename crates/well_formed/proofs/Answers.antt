@@ -7,7 +7,7 @@ use mathlib.Core.Logic.{_↔_}
 use mathlib.Core.List.{List, [], _∷_, map, List·Memᴰ, List·Memᴰ·head, List·Memᴰ·tail}
 use native.Mathlib.Omega.{arith}
 use Rattle.reader.specs.Reader.{Bytes}
-use Rattle.raw.specs.Checked.{Checked, good, refused, either}
+use Rattle.raw.specs.Checked.{Checked, good, either}
 use Rattle.raw.proofs.Grants.{parsed}
 use Rattle.entries.specs.declared.Function.{Function}
 use Rattle.iterate.specs.Iterate.{cursor, Iterates, iterated}

@@ -1,16 +1,23 @@
 -- Document 01's section S, "Numbers to try", and a section T whose two pages are a regular and a compressed one: what they tell, by computation.
 -- Assumes nothing.
-use Prim.Native.Nat.{ℕ, zero, suc, _+_, _*_, _/_, _%_}
+use Prim.Native.Nat.{ℕ, zero, suc, _+_, _*_, _/_, _%_, _<_}
 use mathlib.Core.Path.{_≡_, refl, ap}
-use mathlib.Core.Bool.{Bool, true, false}
+use mathlib.Core.Bool.{Bool, true, false, _&&_}
 use mathlib.Core.List.{List, [], _∷_, map}
+use native.Mathlib.Omega.{arith}
+use borrow.Author.Tests.{ltb-true}
+use lib.Dec.{ltb}
+use lib.ListN.{getD}
+use Rattle.reader.specs.Reader.{Bytes}
 use Rattle.raw.specs.Checked.{Checked, good}
 use Rattle.entries.specs.declared.Function.{Function}
 use Rattle.iterate.specs.declared.Range.{Range}
-use Rattle.iterate.specs.Iterate.{cursor, answer, end}
+use Rattle.iterate.specs.Iterate.{cursor, answer, end, nextOn}
+use Rattle.iterate.specs.Range.{rangeOn}
 use Rattle.lookup.specs.Lookup.{found, nothing}
 use Rattle.well_formed.specs.WellFormed.{WellFormed}
 use Rattle.well_formed.proofs.Checker.{said-yes}
+use Rattle.well_formed.proofs.Tiling.{Tiled, tiled-on}
 use Rattle.well_formed.proofs.Questions.{_⇒_, Row, row, answered}
 
 abbrev pub S : List ℕ
@@ -97,3 +104,22 @@ S-is-well-formed = said-yes S (ap (formed 0) worked)
 pub T-is-well-formed : WellFormed T
 unfolding answered formed
 T-is-well-formed = said-yes T (ap (formed 1) worked)
+
+-- so what is proved of well-formed sections holds of T
+below : List ℕ → Bool
+below [] = true
+below (b ∷ s) = ltb b 256 && below s
+
+are-bytes : (s : List ℕ) → below s ≡ true → Bytes s
+unfolding below
+are-bytes [] e i = omega arith
+are-bytes (b ∷ s) e i = by (ltb b 256) refl (are-bytes s) e i
+  where
+    by : (t : Bool) → ltb b 256 ≡ t → (below s ≡ true → Bytes s) → (t && below s) ≡ true → (i : ℕ) → getD (b ∷ s) i 0 < 256
+    by true q go r zero = ltb-true b 256 q
+    by true q go r (suc i) = go r i
+    by false q go r i = absurd (let z : _≡_ {A = ℕ} 0 1 = cc in omega arith)
+
+pub T-is-tiled : Tiled (rangeOn T) (nextOn T)
+unfolding below
+T-is-tiled = tiled-on T (are-bytes T refl) T-is-well-formed

@@ -69,7 +69,8 @@ record Covered (a : ℕ) (answers : List (Checked Function)) (b : ℕ) : Type 0 
   are : answers ≡ map good functions
   tiles : Tiles a functions b
 
-one-more : (f : Function) {r : List (Checked Function)} {b : ℕ} → f .«start_address» < f .«end_address» → Covered (f .«end_address») r b → Covered (f .«start_address») (good f ∷ r) b
+one-more : (f : Function) {r : List (Checked Function)} {b : ℕ} → f .«start_address» < f .«end_address» → Covered (f .«end_address») r b
+    → Covered (f .«start_address») (good f ∷ r) b
 one-more f h c = record { functions = f ∷ c .functions; are = ap (λ r. good f ∷ r) (c .are); tiles = (refl, h, c .tiles) }
 
 module _ (s : List ℕ) (bytes : Bytes s) (l : Lists) (w : GoodLists s l) where
@@ -91,9 +92,11 @@ module _ (s : List ℕ) (bytes : Bytes s) (l : Lists) (w : GoodLists s l) where
         let t : i < pg .«functions_len» = omega arith in
         let q : suc i ≡ i + 1 = omega arith in
         let e = end-inside (pageAt s l p) pg (firstOf s l (suc p)) i (omega arith) in
-        rw (is-good s bytes l p pg g i t .1) (one-more _ (rw e (g .rises i (suc i) (omega arith) (omega arith))) (rw e (rw q (in-page k (i + 1) (omega arith)))))
+        rw (is-good s bytes l p pg g i t .1)
+        (one-more _ (rw e (g .rises i (suc i) (omega arith) (omega arith))) (rw e (rw q (in-page k (i + 1) (omega arith)))))
 
-  page : (p : ℕ) (r : List (Checked Function)) → suc p < l .«pages_len» → Covered (firstOf s l (suc p)) r last → Covered (firstOf s l p) (inPages s l p (openedAt s l p) ++ r) last
+  page : (p : ℕ) (r : List (Checked Function)) → suc p < l .«pages_len» → Covered (firstOf s l (suc p)) r last
+      → Covered (firstOf s l p) (inPages s l p (openedAt s l p) ++ r) last
   unfolding inPages
   page p r h after =
       let each = w .each p h in
@@ -114,11 +117,10 @@ module _ (s : List ℕ) (bytes : Bytes s) (l : Lists) (w : GoodLists s l) where
   unfolding rangeOf iterated pagesFrom
   covered = by (eqb (l .«pages_len») 0) refl
     where
-      range : ℕ → ℕ → Range
-      range a b = record { start = a; end = b }
+      range : Bool → Range
+      range b = cond b (record { start = 0; end = 0 }) (record { start = firstOf s l 0; end = last })
 
-      by : (b : Bool) → eqb (l .«pages_len») 0 ≡ b
-          → Covered (cond b (range 0 0) (range (firstOf s l 0) last) .start) (pagesFrom s l (l .«pages_len» - 1) 0) (cond b (range 0 0) (range (firstOf s l 0) last) .end)
+      by : (b : Bool) → eqb (l .«pages_len») 0 ≡ b → Covered (range b .start) (pagesFrom s l (l .«pages_len» - 1) 0) (range b .end)
       by true e =
           let none : l .«pages_len» - 1 ≡ 0 = omega (arith, eqb-true (l .«pages_len») 0 e) in
           rw none (record { functions = []; are = refl; tiles = refl })
@@ -132,7 +134,8 @@ module _ (s : List ℕ) (l : Lists) (next : Cursor → Step) (alike : (c : Curso
 
 -- the hypothesis `Bytes` costs nothing: every `&[u8]` meets it
 module _ (s : List ℕ) (bytes : Bytes s) (w : WellFormed s) where
-  tiled : (range : Checked Range) (next : Cursor → Step) → range ≡ good (rangeOf s (w .lists)) → ((c : Cursor) → next c ≡ nextOf s (w .lists) c) → Tiled range next
+  tiled : (range : Checked Range) (next : Cursor → Step) → range ≡ good (rangeOf s (w .lists))
+      → ((c : Cursor) → next c ≡ nextOf s (w .lists) c) → Tiled range next
   tiled range next e alike =
       let c = covered s bytes (w .lists) (w .sound) in
       record {
