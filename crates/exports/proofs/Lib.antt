@@ -4,3 +4,4 @@ pub mod FlatWords
 pub mod FlatFrames
 pub mod FlatUnwinds
 pub mod Batched
+pub mod Examples
