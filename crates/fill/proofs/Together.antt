@@ -12,7 +12,8 @@ use Rattle.iterate.specs.declared.Cursor.{Cursor}
 use Rattle.iterate.specs.Iterate.{cursor, Step, answer, end, nextOf, Iterates, ends, answers, iterated}
 use Rattle.iterate.proofs.Iteration.{iterates, one-list}
 use Rattle.iterate.proofs.Left.{leftOf, fewer}
-use Rattle.fill.specs.Fill.{ended, Taken, byStep, takenOf, answersIn}
+use Rattle.fill.specs.Fill.{Why, full, ended, refusal, Taken, byStep, takenOf, answersIn}
+use Rattle.fill.proofs.Left.{strictly}
 
 -- blocks from a cursor on, each with any room, until one says that it is the end
 pub data Blocks (s : List ℕ) (l : Lists) : Cursor → List (Checked Function) → Type 0 where
@@ -56,6 +57,26 @@ module _ (s : List ℕ) (l : Lists) where
   -- and from the first cursor, what is iterated
   pub blocks-iterate : {r : List (Checked Function)} → Blocks s l (cursor 0 0) r → r ≡ iterated s l
   blocks-iterate b = one-list s l (together b) (iterates s l)
+
+  -- and blocks do come to the end, where each has room for a function
+  by-why : (room n : ℕ) (c : Cursor) (w : Why) → takenOf s l room c .why ≡ w → 0 < room → leftOf s l c < suc n
+      → ((d : Cursor) → leftOf s l d < n → (r : List (Checked Function)) × Blocks s l d r) → (r : List (Checked Function)) × Blocks s l c r
+  by-why room n c ended e h t later = (_, last room e)
+  by-why room n c full e h t later =
+      let on : takenOf s l room c .why ≡ ended → ⊥ = λ q. (let z : _≡_ {A = ℕ} 0 1 = cc in omega arith) in
+      let r = later (takenOf s l room c .next) (omega (arith, strictly s l room c h on)) in
+      (_, more room on (r .1))
+  by-why room n c (refusal k) e h t later =
+      let on : takenOf s l room c .why ≡ ended → ⊥ = λ q. (let z : _≡_ {A = ℕ} 0 1 = cc in omega arith) in
+      let r = later (takenOf s l room c .next) (omega (arith, strictly s l room c h on)) in
+      (_, more room on (r .1))
+
+  in-blocks : (room n : ℕ) (c : Cursor) → 0 < room → leftOf s l c < n → (r : List (Checked Function)) × Blocks s l c r
+  in-blocks room zero c h t = absurd (omega arith)
+  in-blocks room (suc n) c h t = by-why room n c (takenOf s l room c .why) refl h t (λ d. in-blocks room n d h)
+
+  pub blocks-end : (room : ℕ) (c : Cursor) → 0 < room → (r : List (Checked Function)) × Blocks s l c r
+  blocks-end room c h = in-blocks room (suc (leftOf s l c)) c h (omega arith)
 
   -- what the calls from a cursor on answer: there is such a list, of no more answers than are left
   by-call : (n : ℕ) (c : Cursor) (x : Step) → nextOf s l c ≡ x → leftOf s l c < suc n

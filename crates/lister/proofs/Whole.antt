@@ -207,6 +207,24 @@ writes-what-is-left s (done {at = at} e) = sym (at-the-end s at e)
 writes-what-is-left s (then {at = at} out e room w) =
     ap (λ (x : List ℕ). said (blockOf s at out) ++ x) (writes-what-is-left s w) ∙ sym (front-of-listing s at out e room .0)
 
+-- and they do come to the end, whatever 52 bytes or more each is lent
+module _ (s out : List ℕ) (room : 52 ≤ length out) where
+  by-place : (n : ℕ) (at : Place) (b : Bool) → at .ended ≡ b → length (textFrom s at) < suc n
+      → ((p : Place) → length (textFrom s p) < n → (text : List ℕ) × Writes s p text) → (text : List ℕ) × Writes s at text
+  by-place n at true e h later = ([], done e)
+  by-place n at false e h later =
+      let g = front-of-listing s at out e room in
+      let next = blockOf s at out .next in
+      let less : length (textFrom s next) < n = omega (arith, ap length (g .0), length-append (said (blockOf s at out)) (textFrom s next), g .1, g .2) in
+      (_, then out e room (later next less .1))
+
+  in-blocks : (n : ℕ) (at : Place) → length (textFrom s at) < n → (text : List ℕ) × Writes s at text
+  in-blocks zero at h = absurd (omega arith)
+  in-blocks (suc n) at h = by-place n at (at .ended) refl h (in-blocks n)
+
+  pub blocks-end : (at : Place) → (text : List ℕ) × Writes s at text
+  blocks-end at = in-blocks (suc (length (textFrom s at))) at (omega arith)
+
 -- fewer answers than 2 ^ 48, so that the count of the functions is exact and the text's length fits
 module _ (s : List ℕ) (bytes : Bytes s) where
   few-answers : (l : Lists) → acceptedOf s ≡ good l → (c : Cursor) → length (answersFrom s l c) ≤ 65536 * 65536
