@@ -160,7 +160,17 @@ pub extern "C" fn brasspurse_parse_arm64(word: u32) -> OpcodeArm64Answer
         value: 0,
         answer: 3,
         saved_reg_pair_count,
-        saved_pairs: pair_bits(x19, x21, x23, x25, x27, d8, d10, d12, d14),
+        saved_pairs: pair_bits(Pairs {
+            x19,
+            x21,
+            x23,
+            x25,
+            x27,
+            d8,
+            d10,
+            d12,
+            d14,
+        }),
     }
 }
 
@@ -189,7 +199,8 @@ fn arm64_value(kind: u8, word: u32) -> u32
     )
 }
 
-fn pair_bits(
+// Which pairs are saved, each by its lower register.
+struct Pairs {
     x19: bool,
     x21: bool,
     x23: bool,
@@ -199,11 +210,13 @@ fn pair_bits(
     d10: bool,
     d12: bool,
     d14: bool,
-) -> u16
-    ensures { λ r. ⌜ r ≡ number (x19 ∷ x21 ∷ x23 ∷ x25 ∷ x27 ∷ d8 ∷ d10 ∷ d12 ∷ d14 ∷ []) ⌝ }
+}
+
+fn pair_bits(p: Pairs) -> u16
+    ensures { λ r. ⌜ r ≡ number (p .x19 ∷ p .x21 ∷ p .x23 ∷ p .x25 ∷ p .x27 ∷ p .d8 ∷ p .d10 ∷ p .d12 ∷ p .d14 ∷ []) ⌝ }
 {
-    let d = bit(d8, bit(d10, bit(d12, bit(d14, 0))));
-    bit(x19, bit(x21, bit(x23, bit(x25, bit(x27, d)))))
+    let d = bit(p.d8, bit(p.d10, bit(p.d12, bit(p.d14, 0))));
+    bit(p.x19, bit(p.x21, bit(p.x23, bit(p.x25, bit(p.x27, d)))))
 }
 
 // A case that lists no pairs.

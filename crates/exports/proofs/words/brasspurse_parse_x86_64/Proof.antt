@@ -4,6 +4,7 @@ use Prim.Native.Nat.{ℕ, _/_, _%_}
 use mathlib.Core.Path.{_≡_, ap, sym, _∙_}
 use borrow.Author.Needs.{needs}
 use native.Mathlib.Nat.{div-one}
+use native.Mathlib.Omega.{arith}
 use Rattle.permutation.specs.Permutation.{told, decodeOf}
 use Rattle.opcodes.specs.Bits.{bits, kindOf}
 use Rattle.exports.proofs.FlatWords.{plain, no-kind, invalid, immediate, indirect}
@@ -14,7 +15,7 @@ kind-is : (c : tie.After-kind) → kindOf (c .before .before .args .word) ≡ c 
 kind-is c = sym (c .kind .ensures ∙ ap kindOf (c .before .new .ensures))
 
 returns : tie.Need-returns
-returns c = c .x86-case .ensures ∙ no-kind _ _ (kind-is (c .before .before)) (c .before .if1 .taken)
+returns c = c .x86-case .ensures ∙ no-kind _ _ (kind-is (c .before .before)) (omega arith)
 
 returns-2 : tie.Need-returns-2
 returns-2 c =

@@ -9,7 +9,7 @@ use Rattle.exports.proofs.words.pair_bits.Tie as tie
 
 returns : tie.Need-returns
 returns c =
-    let a = c .before .before .before .before .before .before .before .before .before .args in
+    let a = c .before .before .before .before .before .before .before .before .before .args .p in
     let from-d14 = pushed (a .d14) [] _ _ (c .before .before .before .before .before .before .before .before .bit .ensures .0) refl in
     let from-d12 = pushed (a .d12) (a .d14 ∷ []) _ _ (c .before .before .before .before .before .before .before .bit2 .ensures .0) from-d14 in
     let from-d10 = pushed (a .d10) (a .d12 ∷ a .d14 ∷ []) _ _ (c .before .before .before .before .before .before .bit3 .ensures .0) from-d12 in
