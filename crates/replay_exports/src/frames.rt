@@ -27,21 +27,33 @@ pub fn answer(tag: u32, section: &[u8], asked: &[u8]) {
 }
 
 fn put_rule_x86_64(rule: RuleX86_64Answer) {
-    put(rule.refusal as u64);
-    put(rule.value as u64);
-    put(rule.cfa_distance);
-    put(rule.cfa_register as u64);
     let below = rule.below;
-    put_16(&below);
+    put_rule(
+        rule.refusal,
+        rule.value,
+        rule.cfa_distance,
+        rule.cfa_register,
+        &below,
+    );
 }
 
 fn put_rule_arm64(rule: RuleArm64Answer) {
-    put(rule.refusal as u64);
-    put(rule.value as u64);
-    put(rule.cfa_distance);
-    put(rule.cfa_register as u64);
     let below = rule.below;
-    put_16(&below);
+    put_rule(
+        rule.refusal,
+        rule.value,
+        rule.cfa_distance,
+        rule.cfa_register,
+        &below,
+    );
+}
+
+fn put_rule(refusal: u32, value: u32, cfa_distance: u64, cfa_register: u32, below: &[u16]) {
+    put(refusal as u64);
+    put(value as u64);
+    put(cfa_distance);
+    put(cfa_register as u64);
+    put_16(below);
 }
 
 fn unwind_x86_64(section: &[u8], address: u32, asked: &[u8]) {
@@ -57,14 +69,16 @@ fn unwind_x86_64(section: &[u8], address: u32, asked: &[u8]) {
 }
 
 fn put_x86_64(answer: UnwindX86_64Answer) {
-    put(answer.refusal as u64);
-    put(answer.value as u64);
-    put(answer.probes as u64);
     let after = answer.registers;
-    put(after.rip);
-    put(after.rsp);
     let saved = after.saved;
-    put_64(&saved);
+    put_unwound(
+        answer.refusal,
+        answer.value,
+        answer.probes,
+        after.rip,
+        after.rsp,
+        &saved,
+    );
 }
 
 fn unwind_arm64(section: &[u8], address: u32, asked: &[u8]) {
@@ -80,12 +94,23 @@ fn unwind_arm64(section: &[u8], address: u32, asked: &[u8]) {
 }
 
 fn put_arm64(answer: UnwindArm64Answer) {
-    put(answer.refusal as u64);
-    put(answer.value as u64);
-    put(answer.probes as u64);
     let after = answer.registers;
-    put(after.pc);
-    put(after.sp);
     let saved = after.saved;
-    put_64(&saved);
+    put_unwound(
+        answer.refusal,
+        answer.value,
+        answer.probes,
+        after.pc,
+        after.sp,
+        &saved,
+    );
+}
+
+fn put_unwound(refusal: u32, value: u32, probes: u32, pc: u64, sp: u64, saved: &[u64]) {
+    put(refusal as u64);
+    put(value as u64);
+    put(probes as u64);
+    put(pc);
+    put(sp);
+    put_64(saved);
 }
