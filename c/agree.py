@@ -4,8 +4,10 @@
     c/agree.py                  to the sources alone, as the gate does: it needs no compiler
     c/agree.py DEFINED CALLED   to the library and the test too
 
-Compared with the sources in crates/ are the functions, their parameters and what they return, and
-every field of every struct, in their order. DEFINED is the output of `nm -P` on what libexports.a
+Compared with the sources in crates/ are the functions, their parameters and what they return,
+every field of every struct, in their order, and the refusals' names and numbers; each of these
+must have a text of its own in brasspurse_refusal_text. The header's version must be that of
+rust/Cargo.toml and the newest of CHANGELOG.md. DEFINED is the output of `nm -P` on what libbrasspurse.a
 defines, CALLED on what the test's object takes from elsewhere: with these, the functions' names
 are compared. What differs is printed, and the exit status is 1. So it is for a line of either side
 that is not understood.
@@ -30,7 +32,8 @@ SCALARS = {
 
 # The only lines for the preprocessor, so that none hides a declaration.
 DIRECTIVE = re.compile(
-    r"#(include <\w+\.h>|ifndef BRASSPURSE_H|define BRASSPURSE_H|ifdef __cplusplus|endif)"
+    r"#(include <\w+\.h>|ifndef BRASSPURSE_H|define BRASSPURSE_H|ifdef __cplusplus|endif"
+    r'|define BRASSPURSE_(VERSION|VERSION_MAJOR|VERSION_MINOR|VERSION_PATCH) ("[0-9.]+"|[0-9]+))'
 )
 
 
@@ -104,14 +107,22 @@ class Tokens:
 # its fields; a parameter or field is (name, type), and a type is spelled as in C without the name.
 
 
+def snake(name):
+    return re.sub(r"(?<=[a-z0-9])(?=[A-Z])", "_", name).lower()
+
+
 class Header:
     def __init__(self, path):
         text = path.read_text()
-        self.functions, self.structs = {}, {}
+        self.functions, self.structs, self.enums, self.inlines = {}, {}, {}, {}
+        self.versions = {}
         bare = re.sub(r"/\*.*?\*/", lambda c: re.sub(r"[^\n]", " ", c[0]), text, flags=re.S)
         for directive in re.findall(r"(?m)^[ \t]*(#.*?)[ \t]*$", bare):
-            if not DIRECTIVE.fullmatch(directive):
+            understood = DIRECTIVE.fullmatch(directive)
+            if not understood:
                 sys.exit(f"{path.relative_to(ROOT)}: not understood: {directive}")
+            if understood[2]:
+                self.versions.setdefault(understood[2], []).append(understood[3])
         self.tokens = Tokens(path, re.sub(r"(?m)^[ \t]*#.*$", "", bare), r"//[^\n]*")
         while self.tokens.left():
             self.item()
@@ -121,9 +132,9 @@ class Header:
         if t.try_take("extern", '"C"', "{") or t.try_take("}"):
             return
         if t.try_take("enum"):
-            t.word()
+            name = t.word()
             t.expect("{")
-            t.skip_past("}")
+            self.add(self.enums, name, t.separated("}", self.enumerator))
             t.expect(";")
             return
         if t.peek() == "struct" and t.all[t.at + 2][0] == "{":
@@ -137,7 +148,9 @@ class Header:
         parameters = t.separated(")", self.declared)
         if inline:
             t.expect("{")
+            start = t.at
             t.skip_past("}")
+            self.add(self.inlines, name, " ".join(token for token, _ in t.all[start : t.at]))
         else:
             t.expect(";")
             self.add(self.functions, name, (returned, parameters))
@@ -146,6 +159,11 @@ class Header:
         if name in there:
             self.tokens.fail(f"{name} a second time")
         there[name] = thing
+
+    def enumerator(self):
+        name = self.tokens.word()
+        self.tokens.expect("=")
+        return name, int(self.tokens.word())
 
     def fields(self):
         t = self.tokens
@@ -260,17 +278,17 @@ class Source:
 
 
 class Library:
-    """The functions of crates/exports and the structs that they hand on, told as in C."""
+    """The functions of crates/brasspurse and the structs that they hand on, told as in C."""
 
     def __init__(self, crates):
         self.crates = crates
         self.files = {}
         self.functions, self.structs, self.defined = {}, {}, {}
-        for path in sorted((crates / "exports/src").rglob("*.rt")):
+        for path in sorted((crates / "brasspurse/src").rglob("*.rt")):
             source = self.file(path)
             for name, (returned, parameters) in source.functions.items():
                 if name in self.functions:
-                    sys.exit(f"{name} is in crates/exports twice")
+                    sys.exit(f"{name} is in crates/brasspurse twice")
                 told = [p for parameter in parameters for p in self.told(source, *parameter)]
                 back = "void" if returned == "()" else self.plain(source, returned)
                 self.functions[name] = (back, told)
@@ -313,7 +331,7 @@ class Library:
         where = source.path.relative_to(ROOT)
         if name not in source.structs:
             sys.exit(f"{where}: there is no struct {name}")
-        in_c = "brasspurse_" + re.sub(r"(?<=[a-z0-9])(?=[A-Z])", "_", name).lower()
+        in_c = "brasspurse_" + snake(name)
         if self.defined.setdefault(in_c, source.path) != source.path:
             sys.exit(f"{in_c} stands for two structs")
         if in_c not in self.structs:
@@ -353,6 +371,61 @@ def differences(what, there, here, place):
             yield f"  {place}: {spelled(there[name])}"
 
 
+def found(path, pattern):
+    """What the pattern's first group has at its first place in a file."""
+    place = re.search(pattern, path.read_text(), re.S | re.M) if path.exists() else None
+    if not place:
+        sys.exit(f"{path.relative_to(ROOT)}: there is nothing like {pattern}")
+    return place[1]
+
+
+def refusals(crates):
+    """The sources' refusals as the header names them: pairs of a name and a number."""
+    for crate in ("raw", "rules"):
+        body = found(crates / crate / "src/lib.rt", r"fn number\(self\)(.*?)^    }$")
+        for name, number in re.findall(r"::(\w+)[^=\n]*=> (\d+),", body):
+            yield "REFUSED_" + snake(name).upper(), int(number)
+    for name, crate, pattern in (
+        ("NOT_REFUSED", "rules", r"Outcome::Answered => (\d+),"),
+        ("REFUSED_INVALID_FRAMELESS", "permutation", r"Decoded::Refused => (\d+),"),
+        ("REFUSED_LIST", "permutation", r"Encoded::Refused => (\d+),"),
+        ("REFUSED_INPUT_TOO_LONG", "lister", r"Accepted::Refused\((\d+)\)"),
+    ):
+        yield name, int(found(crates / crate / "src/lib.rt", pattern))
+
+
+def wrong_refusals(header, crates):
+    """Lines on refusals that the header has otherwise than the sources, or without their text."""
+    here = header.enums["brasspurse_refusal"]
+    there = {("BRASSPURSE_" + name, number) for name, number in refusals(crates)}
+    for name, number in sorted(there ^ set(here)):
+        place = "the header" if (name, number) in here else "the sources"
+        yield f"{name} = {number} is in {place} alone"
+    body = header.inlines["brasspurse_refusal_text"]
+    texts = re.findall(r'case (\w+) : return ("[^"]+") ;', body)
+    if [name for name, _ in texts] != [name for name, _ in here]:
+        yield "brasspurse_refusal_text has not one case for each refusal, in their order"
+    if len({text for _, text in texts}) != len(texts):
+        yield "brasspurse_refusal_text has a text twice"
+
+
+def wrong_versions(header):
+    """Lines on versions that are not the header's."""
+    numbers = {"VERSION_MAJOR": [], "VERSION_MINOR": [], "VERSION_PATCH": []}
+    version = header.versions.get("VERSION", [""])[0].strip('"')
+    for name, number in zip(numbers, version.split(".")):
+        numbers[name].append(number)
+    if header.versions != {"VERSION": [f'"{version}"'], **numbers}:
+        yield f"the header's version is told as {header.versions}"
+    for name, pattern in (
+        ("rust/Cargo.toml", r'^version = "(.*?)"$'),
+        ("CHANGELOG.md", r"^## (\S+)"),
+    ):
+        other = found(ROOT / name, pattern)
+        if other != version:
+            yield f"the header's version is {version}, that of {name} {other}"
+
+
 def symbols(path):
     names = (line.split()[0] for line in Path(path).read_text().splitlines() if line.split())
     return {name: None for name in names if name.startswith("brasspurse_")}
@@ -366,6 +439,8 @@ def main():
     lines = [
         *differences("function", library.functions, header.functions, "the sources"),
         *differences("struct", library.structs, header.structs, "the sources"),
+        *wrong_refusals(header, CRATES),
+        *wrong_versions(header),
     ]
     for path, place in zip(sys.argv[1:], ("the library", "what the test calls")):
         lines += differences("function", symbols(path), names, place)
@@ -374,7 +449,11 @@ def main():
     if lines:
         sys.exit(1)
     functions, structs = len(header.functions), len(header.structs)
-    print(f"{functions} functions and {structs} structs of the header are the library's")
+    numbers = len(header.enums["brasspurse_refusal"])
+    print(
+        f"{functions} functions, {structs} structs and {numbers} refusals of the header are the "
+        f"library's"
+    )
 
 
 if __name__ == "__main__":
