@@ -1,4 +1,4 @@
--- The listing block after block: what one call writes into the bytes that it is lent, and the place from which the next one goes on.
+-- The listing (docs/FORMAT.md, 12) block after block: what one call writes into the bytes that it is lent, and the place from which the next one goes on.
 -- Assumes nothing.
 use Prim.Native.Nat.{ℕ, _+_, _-_, _/_, min}
 use mathlib.Core.List.{List, [], _++_, map}

@@ -1,4 +1,4 @@
--- What document 01's program writes for an input: the whole text, from the bytes.
+-- docs/FORMAT.md, 12: what the program `functions` writes for an input, the whole text, from the bytes.
 -- Assumes nothing.
 use Prim.Native.Nat.{ℕ, suc}
 use mathlib.Core.List.{List, [], _∷_, _++_}

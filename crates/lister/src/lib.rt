@@ -1,4 +1,4 @@
-// The listing of a section, block after block: document 01's program without its input.
+// The listing of a section (docs/FORMAT.md, 12), block after block: the program `functions` without its input.
 ghost use mathlib.Core.Path.{_≡_};
 ghost use Prim.Native.Nat.{_+_, _-_, _*_, _/_, _≤_, min};
 ghost use mathlib.Core.List.{_++_};
@@ -173,17 +173,32 @@ pub fn write_block(s: &[u8], at: Place, out: &mut [u8]) -> Block
     }
 }
 
-// Writes the listing of a section to standard output, block after block; answers how many bytes it has, as far as 64 bits count.
+// Hands a block on to standard output, unless one before it failed; answers whether none has. At the first failure a line on
+// standard error says why.
+fn hand_on(before: bool, text: &[u8]) -> bool {
+    if !before {
+        return false;
+    }
+    let now = io::write_all(STDOUT_FILENO, text);
+    if !now {
+        os::fail(b"standard output");
+    }
+    now
+}
+
+// Writes the listing of a section to standard output, block after block, as long as no write fails. Answers how many bytes the listing
+// has, as far as 64 bits count.
 pub fn list(s: &[u8]) -> u64
     ensures { λ r. ⌜ r ≡ counted 0 (length (listingOf (now (s .entry)))) ⌝ }
 {
     let mut text = room_for_text();
     let mut at = start_place();
     let mut total: u64 = 0;
+    let mut whole = true;
     while !at.ended {
         let block = write_block(s, at, &mut text);
         let n = block.written;
-        io::write_all(STDOUT_FILENO, reader::part(&text, 0, n));
+        whole = hand_on(whole, reader::part(&text, 0, n));
         total = count(total, n);
         at = block.next;
     }

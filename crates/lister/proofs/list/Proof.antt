@@ -16,11 +16,11 @@ use Rattle.lister.proofs.list.Statement.{statement}
 use Rattle.lister.proofs.list.Tie as tie
 
 abbrev Inv-loop : tie.InvT-loop
-Inv-loop s text₀ at₀ total₀ text at total =
+Inv-loop s text₀ at₀ total₀ whole₀ text at total whole =
     (27673 ≡ length text) × (counted total (length (textFrom s at)) ≡ counted 0 (length (listingOf s))) × (total ≤ 18446744073709551615)
 
 abbrev μ-loop : tie.MeasureT-loop
-μ-loop s text₀ at₀ total₀ text at total = length (textFrom s at)
+μ-loop s text₀ at₀ total₀ whole₀ text at total whole = length (textFrom s at)
 
 -- the bytes that are lent are bytes
 loop-holds : tie.Need-loop-holds Inv-loop μ-loop
