@@ -1,4 +1,4 @@
--- Many addresses in one call: each answer is four numbers, which tell what the lookup of its address tells.
+-- docs/FORMAT.md, 4.3: many addresses in one call; each answer is four numbers, which tell what the lookup of its address tells.
 -- Assumes nothing.
 use Prim.Native.Nat.{ℕ, _+_, _*_, _/_}
 use mathlib.Core.Bool.{cond}

@@ -1,4 +1,4 @@
--- What the helpers promise: a page that was read for an address, and the answer where the search in it ended.
+-- What the helpers promise: a page that was read for an address (docs/FORMAT.md, 4.1), and the answer where the search in it ended.
 -- Assumes nothing.
 use Prim.Native.Nat.{ℕ, _+_, _-_, _*_, _/_, _%_, _≤_, _<_}
 use mathlib.Core.Path.{_≡_}

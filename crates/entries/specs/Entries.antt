@@ -1,4 +1,4 @@
--- The functions of a page: document 01, "Section layout".
+-- docs/FORMAT.md, 2.4 to 2.7: the functions of a page.
 -- Assumes nothing.
 use Prim.Native.Nat.{ℕ, suc, _+_, _-_, _*_, _/_}
 use mathlib.Core.List.{List, []}
@@ -26,7 +26,7 @@ localsOf page pg = partOf page (pg .«local_opcodes_offset») (4 * pg .«local_o
 unfoldable pub fourOf : List ℕ → ℕ → List ℕ
 fourOf s o = cond (grantedOf 4 s o) (partOf s o 4) []
 
--- an index below the global count names a global opcode; otherwise the global count is subtracted and the local list taken
+-- 2.6: an index below the global count names a global opcode; otherwise the global count is subtracted and the local list taken
 unfoldable pub isGlobal : List ℕ → ℕ → Bool
 isGlobal globals index = ltb index (length globals / 4)
 
@@ -41,7 +41,7 @@ unfoldable pub opcodePartIn : Slice → Slice → ℕ → Slice
 opcodePartIn globals locals index =
     cond (isGlobal (globals .bytes) index) (fourIn globals (4 * index)) (fourIn locals (4 * (index - length (globals .bytes) / 4)))
 
--- over the list of functions: start and end of function i, whole numbers
+-- 2.7, over the list of functions: start and end of function i, whole numbers
 module _ (functions : List ℕ) (pg : Page) where
   unfoldable pub startIn : ℕ → ℕ
   startIn i = pg .base + keyOf functions (layout (pg .kind)) i
@@ -49,7 +49,7 @@ module _ (functions : List ℕ) (pg : Page) where
   unfoldable pub endIn : (next : ℕ) → ℕ → ℕ
   endIn next i = cond (ltb (suc i) (pg .«functions_len»)) (startIn (suc i)) next
 
--- the opcode that an index names, where `there` says that the local opcodes are: they count for a local index alone
+-- 2.6: the opcode that an index names, where `there` says that the local opcodes are: they count for a local index alone
 unfoldable pub resolveOf : List ℕ → List ℕ → Bool → ℕ → Checked ℕ
 resolveOf globals locals there index = do
   check 11 (isGlobal globals index || there)

@@ -1,4 +1,4 @@
--- The pages of a section with its lists, by their number.
+-- docs/FORMAT.md, 2.2 to 2.7: the pages of a section with its lists, by their number, and their functions.
 -- Assumes nothing.
 use Prim.Native.Nat.{ℕ, suc}
 use mathlib.Core.List.{List}

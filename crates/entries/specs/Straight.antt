@@ -1,4 +1,5 @@
--- A page's functions read straight from the section: what is the same for all of them is a `Source`, and each entry is read once.
+-- For the contracts of helpers: a page's functions (docs/FORMAT.md, 2.6 and 2.7) read straight from the section. What is the same for all of them
+-- is a `Source`, and each entry is read once.
 -- Assumes nothing.
 use Prim.Native.Nat.{ℕ, suc, _+_, _-_, _*_, _/_, _%_, _≤_, _<_}
 use mathlib.Core.List.{List}

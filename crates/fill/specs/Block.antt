@@ -1,4 +1,4 @@
--- A block on its way: which functions stand in the list, and what is still to come.
+-- For the contracts of helpers: a block on its way (docs/FORMAT.md, 5.4), which functions stand in the list, and what is still to come.
 -- Assumes nothing.
 use Prim.Native.Nat.{ℕ, suc, _+_, _-_, _*_, _/_, _≤_, _<_}
 use mathlib.Core.Path.{_≡_}

@@ -1,4 +1,4 @@
--- Iteration by blocks: the answers of the calls from a cursor on, one after the other, into a lent list of numbers.
+-- docs/FORMAT.md, 5.4: iteration by blocks, the answers of the calls from a cursor on, one after the other, into a lent list of numbers.
 -- Assumes nothing.
 use Prim.Native.Nat.{ℕ, zero, suc, _*_, _/_}
 use mathlib.Core.List.{List, [], _∷_, _++_, map}

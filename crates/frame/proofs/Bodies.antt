@@ -1,4 +1,4 @@
--- A machine at entry and a body, from what can be computed: so that the hypotheses of demand 3 can be seen to be met.
+-- A machine at entry and a body, from what can be computed: so that the hypotheses of promise 0.3 (docs/FORMAT.md) can be seen to be met.
 -- Assumes nothing.
 use Prim.Native.Nat.{ℕ, zero, suc, _+_, _^_, _<_, _≤_, max}
 use mathlib.Core.Path.{_≡_, refl, ap, sym, _∙_}

@@ -1,5 +1,4 @@
--- A call until it is interrupted: what holds at a function's entry, and what a body may not change: document 01, "One frame, and its
--- prologue".
+-- docs/FORMAT.md, 9.1 and 9.7: a call until it is interrupted, what holds at a function's entry, and what a body may not change.
 -- Assumes nothing.
 use Prim.Native.Nat.{ℕ, _+_, _^_, _<_, _≤_}
 use mathlib.Core.Path.{_≡_}
@@ -31,13 +30,13 @@ pub record Alike (f : Frame) (r r′ : Regs) : Type 0 where
   pub count : length (r′ .kept) ≡ length (r .kept)
   pub others : (k : ℕ) → Unlisted (f .saved) k → getD (r′ .kept) k 0 ≡ getD (r .kept) k 0
 
--- What a body may not change: those registers, and the slots at the places ps, the frame's own or those of all open calls.
+-- 9.7. What a body may not change: those registers, and the slots at the places ps, the frame's own or those of all open calls.
 pub record Body (w : ℕ) (ps : List ℕ) (f : Frame) (r r′ : Regs) (m m′ : List ℕ) : Type 0 where
   pub regs : Alike f r r′
   pub window : length m′ ≡ length m
   pub slots : Keeps w ps m m′
 
--- A machine of n registers of w bytes at a function's entry, and a window that holds the whole frame, which goes down to `extent` below CFA.
+-- 9.1. A machine of n registers of w bytes at a function's entry, and a window that holds the whole frame, which goes down to `extent` below CFA.
 pub record Entered (w n base cfa extent : ℕ) (mc : Machine) : Type 0 where
   pub many : length (mc .regs .kept) ≡ n
   pub words : (k : ℕ) → getD (mc .regs .kept) k 0 < 256 ^ w

@@ -1,5 +1,5 @@
--- Frames where the return address comes in a register, at place lr: with a frame pointer, and registers stored downwards below it; or with
--- the stack pointer lowered and nothing stored. Over the slot's width w.
+-- docs/FORMAT.md, 9.5 and 9.6: frames where the return address comes in a register, at place lr. With a frame pointer, and registers stored
+-- downwards below it; or with the stack pointer lowered and nothing stored. Over the slot's width w.
 -- Assumes nothing.
 use Prim.Native.Nat.{ℕ, _+_, _-_, _*_}
 use mathlib.Core.List.{List, [], _∷_}

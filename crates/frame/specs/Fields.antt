@@ -1,4 +1,4 @@
--- A frame with a frame pointer, and fields that name the registers stored below it. Over the slot's width w.
+-- docs/FORMAT.md, 9.2: a frame with a frame pointer, and fields that name the registers stored below it. Over the slot's width w.
 -- Assumes nothing.
 use Prim.Native.Nat.{ℕ, zero, suc, _+_, _-_}
 use mathlib.Core.List.{List, [], _∷_}

@@ -1,5 +1,5 @@
--- A frame: what CFA is counted from, where the return address is and where each saved register lies; and one step over it: document 01,
--- "One frame, and its prologue".
+-- docs/FORMAT.md, 9.1 and 10.2: a frame, what CFA is counted from, where the return address is and where each saved register lies; and one step
+-- over it.
 -- Assumes nothing.
 use Prim.Native.Nat.{ℕ, zero, suc, _+_, _-_, _^_, max}
 use mathlib.Core.List.{List, [], _∷_}
@@ -66,7 +66,7 @@ distances ds (s ∷ ss) = distances (set ds (s .reg) (s .below)) ss
 abbrev pub distancesOf : ℕ → List Slot → List ℕ
 distancesOf n ss = distances (replicate n 0) ss
 
--- The slot d below CFA lies wholly in the window; a place below 0 does not.
+-- 10.2. The slot d below CFA lies wholly in the window; a place below 0 does not.
 abbrev pub inside : ℕ → ℕ → ℕ → ℕ → ℕ → Bool
 inside w base len cfa d = leb (base + d) cfa && leb (cfa + w) (base + len + d)
 

@@ -1,4 +1,4 @@
--- A window's bytes, and slots of w bytes in it, little-endian.
+-- docs/FORMAT.md, 9.1: a window's bytes, and slots of w bytes in it, little-endian.
 -- Assumes nothing.
 use Prim.Native.Nat.{ℕ, zero, suc, _/_, _%_}
 use mathlib.Core.List.{List, [], _∷_}

@@ -1,4 +1,4 @@
--- A frame without a frame pointer: registers pushed, then the stack pointer lowered. Over the slot's width w.
+-- docs/FORMAT.md, 9.3: a frame without a frame pointer; registers pushed, then the stack pointer lowered. Over the slot's width w.
 -- Assumes nothing.
 use Prim.Native.Nat.{ℕ, pred, _+_, _-_, _≤_, _<_}
 use mathlib.Core.List.{List, [], _∷_}

@@ -1,4 +1,4 @@
--- Iteration, document 01, "Finding and iterating": what a call tells at a cursor, and what the calls from the first cursor tell until the end.
+-- docs/FORMAT.md, 5.1 to 5.3: iteration, what a call tells at a cursor, and what the calls from the first cursor tell until the end.
 -- Assumes nothing.
 use Prim.Native.Nat.{ℕ, zero, suc, _+_, _-_}
 use mathlib.Core.Path.{_≡_}
@@ -27,11 +27,11 @@ nextTold (Next.Function f c) = answer (good f) c
 nextTold (Next.Refused e c) = answer (refused (numberOf e)) c
 nextTold (Next.End c) = end c
 
--- the last page's number, 0 if there are no pages, and index 0
+-- 5.3: the last page's number, 0 if there are no pages, and index 0
 abbrev pub endCursor : Lists → Cursor
 endCursor l = cursor (l .«pages_len» - 1) 0
 
--- index i of page p, which was opened; `later` is what the pages after it tell
+-- 5.2 and 5.3: index i of page p, which was opened; `later` is what the pages after it tell
 unfoldable pub inPage : List ℕ → Lists → ℕ → ℕ → Checked Page → Step → Step
 inPage s l p i (good pg) later = cond (ltb i (pg .«functions_len»)) (answer (functionAt s l p pg i) (cursor p (i + 1))) later
 inPage s l p i (refused k) later = answer (refused k) (cursor (p + 1) 0)

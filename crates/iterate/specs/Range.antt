@@ -1,4 +1,4 @@
--- The range of addresses that a section covers: document 01, "Finding and iterating".
+-- docs/FORMAT.md, 5.5: the range of addresses that a section covers.
 -- Assumes nothing.
 use Prim.Native.Nat.{ℕ, _-_}
 use mathlib.Core.List.{List}

@@ -1,4 +1,4 @@
--- What the texts say: digits read back give the number, decimals have no leading zero, and document 01's listing of its section S.
+-- What the texts say: digits read back give the number, decimals have no leading zero, and the listing of section S (docs/FORMAT.md, 12).
 -- Assumes nothing.
 use Prim.Native.Nat.{ℕ, zero, suc, _+_, _-_, _*_, _/_, _%_, _^_, _≤_, _<_}
 use mathlib.Core.Path.{_≡_, refl}
@@ -58,7 +58,7 @@ at-most-20-places n h = omega (arith, length-digits 10 (placesOf n) n, few 19 n 
 pub no-leading-zero : (n : ℕ) → 0 < n → getD (decimalOf n) 0 0 ≡ 48 → ⊥
 no-leading-zero n h e = omega (arith, first-digit n n (le-refl n) h)
 
--- document 01's listing of its section S
+-- the listing of section S: docs/FORMAT.md, 12
 pub first-line : lineOf 0x1000 0x1040 0x01010001
     ≡ 48 ∷ 48 ∷ 48 ∷ 48 ∷ 49 ∷ 48 ∷ 48 ∷ 48 ∷ 32 ∷ 48 ∷ 48 ∷ 48 ∷ 48 ∷ 49 ∷ 48 ∷ 52 ∷ 48 ∷ 32 ∷ 48 ∷ 49 ∷ 48 ∷ 49 ∷ 48 ∷ 48 ∷ 48 ∷ 49 ∷ 10 ∷ []
 unfolding lineOf digitsOf digitOf

@@ -1,4 +1,4 @@
--- The text of a listing, as lists of bytes: document 01, "A program reads a section ..".
+-- docs/FORMAT.md, 12: the text of a listing, as lists of bytes.
 -- Assumes nothing.
 use Prim.Native.Nat.{ℕ, zero, suc, _+_, _/_, _%_, min}
 use mathlib.Core.List.{List, [], _∷_, _++_}

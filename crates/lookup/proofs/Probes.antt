@@ -1,4 +1,4 @@
--- A lookup probes at most the bit length of the page count and, if a page was searched, that of its function count.
+-- docs/FORMAT.md, 3.2: a lookup probes at most the bit length of the page count and, if a page was searched, that of its function count.
 -- Assumes nothing.
 use Prim.Native.Nat.{ℕ, _+_, _-_, _^_, _≤_, _<_, zero-le}
 use mathlib.Core.Path.{_≡_, refl}
@@ -50,7 +50,7 @@ searchedAfter s l spot =
 unfoldable pub functionsSearched : List ℕ → Lists → ℕ → ℕ
 functionsSearched s l pc = searchedAfter s l (searchOf (pagesOf s l) Layout.Pages pc)
 
--- 01's bound
+-- the bound of 3.2
 abbrev pub mostProbes : List ℕ → ℕ → Lists → ℕ
 mostProbes s pc l = bitLength (l .«pages_len») + bitLength (functionsSearched s l pc)
 

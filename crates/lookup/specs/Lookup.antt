@@ -1,4 +1,4 @@
--- Lookup, document 01, "Finding and iterating": what it tells, with the entries that it probed.
+-- docs/FORMAT.md, 4.1 and 4.2: lookup, what it tells, with the entries that it probed.
 -- Assumes nothing.
 use Prim.Native.Nat.{ℕ, _+_, _-_, _≤_, _<_}
 use mathlib.Core.List.{List}
@@ -64,7 +64,7 @@ probesOf (found f n) = n
 probesOf (nothing n) = n
 probesOf (refusal k n) = n
 
--- the function covers the address
+-- docs/FORMAT.md, 0.2: the function covers the address
 pub record Covers (f : Function) (pc : ℕ) : Type 0 where
   pub starts : f .«start_address» ≤ pc
   pub ends : pc < f .«end_address»

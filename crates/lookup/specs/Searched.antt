@@ -1,4 +1,4 @@
--- What the helpers promise: the lookup in a page that was read, over the page's bytes and the next page's first address.
+-- What the helpers promise: the lookup in a page that was read (docs/FORMAT.md, 4.1), over the page's bytes and the next page's first address.
 -- Assumes nothing.
 use Prim.Native.Nat.{ℕ, _+_, _-_}
 use mathlib.Core.List.{List}

@@ -1,5 +1,5 @@
--- What the combined call promises, said once over the machine: a lookup refusal passed on unchanged, 20 for none, the step's answer where a
--- function was found, the registers unchanged on every refusal, the probes never lost.
+-- What the combined call promises (docs/FORMAT.md, 10.3 and 10.4), said once over the machine: a lookup refusal passed on unchanged, 20 for none,
+-- the step's answer where a function was found, the registers unchanged on every refusal, the probes never lost.
 -- Assumes nothing.
 use Prim.Native.Nat.{ℕ}
 use mathlib.Core.Path.{_≡_, refl, ap}

@@ -1,4 +1,5 @@
--- On a well-formed section the combined call undoes the prologue of the one iterated function that covers the address.
+-- docs/FORMAT.md, 0.2 and 0.3 together: on a well-formed section the combined call undoes the prologue of the one iterated function that covers
+-- the address.
 -- Assumes nothing.
 use Prim.Native.Nat.{ℕ, _+_, _-_}
 use mathlib.Core.Path.{_≡_, ap, sym, _∙_}

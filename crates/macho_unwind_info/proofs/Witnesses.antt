@@ -1,5 +1,5 @@
--- Demands 2 and 3 together have an instance on each machine, in section S: an address that an iterated function covers, whose word is sound; a
--- machine at entry, a body that changes all that it may, and the combined call's answer in numbers.
+-- Promises 0.2 and 0.3 of docs/FORMAT.md together have an instance on each machine, in section S: an address that an iterated function covers,
+-- whose word is sound; a machine at entry, a body that changes all that it may, and the combined call's answer in numbers.
 -- Assumes nothing.
 use Prim.Native.Nat.{ℕ}
 use mathlib.Core.Path.{_≡_, refl, ap, _∙_}

@@ -1,4 +1,4 @@
--- P1 to P12 of document 01, "Numbers to try": one table of what is asked and what is answered, and one claim, by computation.
+-- P1 to P12 of docs/FORMAT.md, 13.1: one table of what is asked and what is answered, and one claim, by computation.
 -- Assumes nothing.
 use Prim.Native.Nat.{ℕ}
 use mathlib.Core.Path.{_≡_, refl}

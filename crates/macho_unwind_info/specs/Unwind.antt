@@ -1,4 +1,4 @@
--- The combined call, on every machine: an address is looked up, then one frame undone. Document 01, "Refusal numbers".
+-- docs/FORMAT.md, 10.3 and 10.4: the combined call, on every machine; an address is looked up, then one frame undone.
 -- Assumes nothing.
 use Prim.Native.Nat.{ℕ}
 use Rattle.raw.specs.Checked.{numberOf}
@@ -8,7 +8,7 @@ use Rattle.rules.specs.Answers.{Number, numbered, refusalOf}
 use Rattle.step.specs.Steps.{Told}
 use Rattle.macho_unwind_info.specs.declared.Outcome.{Outcome}
 
--- 01's number of an outcome and what it carries; 0 and 0 where nothing is refused
+-- an outcome's number and what it carries; 0 and 0 where nothing is refused
 abbrev pub outcomeOf : Outcome → Number
 outcomeOf Outcome.Answered = numbered 0 0
 outcomeOf (Outcome.NotLookedUp e) = numbered (numberOf e) 0

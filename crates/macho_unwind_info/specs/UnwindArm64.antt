@@ -1,4 +1,4 @@
--- The combined call on arm64.
+-- docs/FORMAT.md, 10.4: the combined call on arm64.
 -- Assumes nothing.
 use Prim.Native.Nat.{ℕ}
 use mathlib.Core.List.{List}

@@ -1,4 +1,4 @@
--- The combined call on x86_64.
+-- docs/FORMAT.md, 10.4: the combined call on x86_64.
 -- Assumes nothing.
 use Prim.Native.Nat.{ℕ}
 use mathlib.Core.List.{List}

@@ -1,4 +1,4 @@
--- The view: a section together with its two list places.
+-- docs/FORMAT.md, 2.1: the view, a section together with its two list places.
 -- Assumes nothing.
 use Prim.Native.Nat.{ℕ}
 use mathlib.Core.List.{List}

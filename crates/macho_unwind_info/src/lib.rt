@@ -20,7 +20,7 @@ pub enum Outcome {
 }
 
 impl Outcome {
-    // Document 01's number, 0 where there is an answer.
+    // The refusal's number (docs/FORMAT.md, 11), 0 where there is an answer.
     pub fn number(self) -> u8
         ensures { λ r. ⌜ r ≡ outcomeOf self .number ⌝ }
     {

@@ -98,7 +98,7 @@ x86-by-header w =
 abbrev pub modeArm64 : ℕ → ℕ
 modeArm64 w = bitAnd w 0x0F000000  -- UNWIND_ARM64_MODE_MASK
 
--- The masks of the pairs. Those of the d pairs are document 01's and the Rust's; the header has 0x100, 0x200, 0x400 and 0x800.
+-- The masks of the pairs. Those of the d pairs are the Rust's (docs/FORMAT.md, 7.4 and 0.4); the header has 0x100, 0x200, 0x400 and 0x800.
 abbrev pub pairMasks : List ℕ
 pairMasks =
     0x00000001  -- UNWIND_ARM64_FRAME_X19_X20_PAIR

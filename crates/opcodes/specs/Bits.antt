@@ -1,4 +1,4 @@
--- Bits of an opcode word, by division and remainder: document 01, "Opcode words".
+-- docs/FORMAT.md, 7.1: bits of an opcode word, by division and remainder.
 -- Assumes nothing.
 use Prim.Native.Nat.{ℕ, _/_, _%_, _^_}
 use mathlib.Core.Bool.{Bool}

@@ -1,4 +1,4 @@
--- The registers of x86_64 that a word can list: document 01, "Opcode words".
+-- docs/FORMAT.md, 7.3: the registers of x86_64 that a word can list.
 -- Assumes nothing.
 use Prim.Native.Nat.{ℕ, pred}
 use mathlib.Core.Bool.{cond, _&&_}

@@ -1,4 +1,4 @@
--- What an opcode word of arm64 says: document 01, "Opcode words".
+-- docs/FORMAT.md, 7.4: what an opcode word of arm64 says.
 -- Assumes nothing.
 use Prim.Native.Nat.{ℕ, _+_, _*_}
 use mathlib.Core.Bool.{Bool, cond}

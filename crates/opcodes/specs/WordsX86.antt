@@ -1,4 +1,4 @@
--- What an opcode word of x86_64 says: document 01, "Opcode words".
+-- docs/FORMAT.md, 7.2: what an opcode word of x86_64 says.
 -- Assumes nothing.
 use Prim.Native.Nat.{ℕ, _*_}
 use mathlib.Core.Bool.{cond}

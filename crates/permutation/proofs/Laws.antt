@@ -14,7 +14,7 @@ use Rattle.permutation.proofs.Tests.{both-left, both-right}
 use Rattle.permutation.proofs.Digits.{row-bound, Small, radix, digits-small, sum-of-digits, length-digits, weighed, row-radix, weights-long}
 use Rattle.permutation.proofs.Choosing.{drawn, ranks-chosen, Ranked, ranked, drawn-chosen, drawn-is, length-chosen, length-ranks}
 
--- The encodings that 01 does not refuse: counts up to 6, and below the bound; count 0 refuses none.
+-- The encodings that are not refused (docs/FORMAT.md, 8.1): counts up to 6, and below the bound; count 0 refuses none.
 pub record Below (n e : ℕ) : Type 0 where
   pub count : n ≤ 6
   pub small : 0 < n → e < getD bounds n 0
@@ -61,7 +61,7 @@ decode-refuses n e f = simp f
 pub decode-accepts-only : (n e : ℕ) (xs : List ℕ) → decodeOf n e ≡ accepted xs → Below n e
 decode-accepts-only n e xs d = below-accepted n e (decode-cases n e xs d .0)
 
--- the weights of every count give numbers below some bound, for counts from 1 on the one that 01 names
+-- the weights of every count give numbers below some bound, for counts from 1 on the one that docs/FORMAT.md, 8.1, names
 pub record Row (n : ℕ) : Type 0 where
   pub bound : ℕ
   pub spells : radix (weights n) 6 bound ≡ true
@@ -103,7 +103,7 @@ every-zeros (x ∷ xs) t =
     let i : xs ≡ replicate (length xs) 0 = every-zeros xs (both-right (eqb 0 x) (every (eqb 0) xs) t) in
     cc
 
--- Encoding what was decoded, for counts 1 to 6.
+-- docs/FORMAT.md, 0.2: encoding what was decoded, for counts 1 to 6.
 pub encode-decode : (n e : ℕ) (xs : List ℕ) → 0 < n → decodeOf n e ≡ accepted xs → encodeOf n xs ≡ encoding e
 unfolding encodeOf
 encode-decode n e xs p d =

@@ -1,4 +1,4 @@
--- The lists that the encoder takes, as 01 describes them: exactly those that the test passes.
+-- The lists that the encoder takes, as docs/FORMAT.md, 8.3, describes them: exactly those that the test passes.
 -- Assumes nothing.
 use Prim.Native.Nat.{ℕ, zero, suc, _+_, _-_, _<_, _≤_}
 use mathlib.Core.Path.{_≡_, refl, sym, _∙_, subst}

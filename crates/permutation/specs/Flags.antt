@@ -1,4 +1,5 @@
--- What the code keeps, for the contracts of helpers: a flag for each register from 1 on, 0 where it is unused, and the steps of a scan.
+-- What the code keeps, for the contracts of helpers (docs/FORMAT.md, 8.2 and 8.3): a flag for each register from 1 on, 0 where it is unused, and
+-- the steps of a scan.
 -- Assumes nothing.
 use Prim.Native.Nat.{ℕ, zero, suc}
 use mathlib.Core.List.{List, [], _∷_}

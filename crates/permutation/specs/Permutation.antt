@@ -1,4 +1,4 @@
--- The permutation field of a frameless word, read and written: document 01, "Opcode words", from "Permutations" on.
+-- docs/FORMAT.md, 8.1 to 8.3: the permutation field of a frameless word, read and written.
 -- Assumes nothing.
 use Prim.Native.Nat.{ℕ, zero, suc, _+_, _-_, _*_, _/_, _%_}
 use mathlib.Core.List.{List, [], _∷_, _++_}
@@ -10,7 +10,7 @@ use Rattle.permutation.specs.declared.Decoded.the-variants.{Accepted, Re
 use Rattle.permutation.specs.declared.Permutation.{Permutation}
 use Rattle.permutation.specs.declared.Encoded.{Encoded}
 
--- The weights stand as one row of six for each count, filled up with zeros.
+-- 8.1. The weights stand as one row of six for each count, filled up with zeros.
 unfoldable pub rows : List (List ℕ)
 rows =
     (0 ∷ 0 ∷ 0 ∷ 0 ∷ 0 ∷ 0 ∷ [])
@@ -30,7 +30,7 @@ bounds = 0 ∷ 6 ∷ 30 ∷ 120 ∷ 360 ∷ 720 ∷ 720 ∷ []
 abbrev pub weights : ℕ → List ℕ
 weights n = take n (getD rows n [])
 
--- The digits of a number: how often each weight goes into what the weights before it leave. Where the weight is 0 nothing is left, and
+-- 8.2. The digits of a number: how often each weight goes into what the weights before it leave. Where the weight is 0 nothing is left, and
 -- the digit is 0 (here x / 0 is 0 and x % 0 is x).
 abbrev pub digits : List ℕ → ℕ → List ℕ
 digits [] e = []
@@ -62,7 +62,7 @@ abbrev pub before : List ℕ → ℕ → ℕ
 before [] x = 0
 before (y ∷ ys) x = cond (eqb x y) 0 (suc (before ys x))
 
--- For each register the digit that counts down to it among the unused ones.
+-- 8.3. For each register the digit that counts down to it among the unused ones.
 abbrev pub ranks : List ℕ → List ℕ → List ℕ
 ranks unused [] = []
 ranks unused (x ∷ xs) = before unused x ∷ ranks (without unused (before unused x)) xs
@@ -79,7 +79,7 @@ abbrev pub distinct : List ℕ → Bool
 distinct [] = true
 distinct (x ∷ xs) = not (member x xs) && distinct xs
 
--- What the decoder tells: six registers, or 01's number of the refusal with the places as they are handed back.
+-- What the decoder tells: six registers, or the refusal's number with the places as they are handed back.
 pub data Told : Type 0 where
   accepted : List ℕ → Told
   refused : ℕ → List ℕ → Told
@@ -95,7 +95,7 @@ registersOf n e = chosen named (digits (weights n) e) ++ replicate (6 - n) 0
 unfoldable pub decodeOf : ℕ → ℕ → Told
 decodeOf n e = cond (accepts n e) (accepted (registersOf n e)) (refused 23 (replicate 6 0))
 
--- What the encoder tells.
+-- 8.3. What the encoder tells.
 pub data Written : Type 0 where
   encoding : ℕ → Written
   refused : ℕ → Written
@@ -110,7 +110,7 @@ encodingOf n xs = weighted (weights n) (ranks named (take n xs))
 unfoldable pub encodeOf : ℕ → List ℕ → Written
 encodeOf n xs = cond (leb n 6 && listed n xs) (encoding (encodingOf n xs)) (refused 28)
 
--- 01's number of each answer, 0 where nothing is refused.
+-- The number of each answer, 0 where nothing is refused.
 abbrev pub decodedNumber : Decoded → ℕ
 decodedNumber Accepted = 0
 decodedNumber Refused = 23

@@ -1,4 +1,4 @@
--- Checks in document 01's order, with its refusal numbers.
+-- docs/FORMAT.md, 11: checks one after the other, and the numbers of the refusals.
 -- Assumes nothing.
 use Prim.Native.Nat.{ℕ}
 use mathlib.Core.Bool.{Bool, true, false}
@@ -27,7 +27,7 @@ abbrev pub check : ℕ → Bool → Checked (Unit {0})
 check k true = good tt
 check k false = refused k
 
--- 01's number of each refusal
+-- the number of each refusal
 abbrev pub numberOf : Error → ℕ
 numberOf Error.Header = 1
 numberOf Error.GlobalOpcodes = 2

@@ -1,4 +1,4 @@
--- A section's lists and pages: document 01, "Section layout".
+-- docs/FORMAT.md, 2.1 to 2.5: a section's lists and pages.
 -- Assumes nothing.
 use Prim.Native.Nat.{ℕ, _+_, _*_}
 use mathlib.Core.List.{List}
@@ -15,14 +15,14 @@ use Rattle.raw.specs.declared.Parsed.{Parsed}
 use Rattle.raw.specs.declared.Opened.{Opened}
 use Rattle.raw.specs.Checked.{Checked, good, refused, _>>=_, _>>_, check, numberOf}
 
--- the two lists lie in the section
+-- 2.1: the two lists lie in the section
 unfoldable pub grantOf : List ℕ → Lists → Checked Lists
 grantOf s l = do
   check 2 (grantedOf (4 * l .«global_opcodes_len») s (l .«global_opcodes_offset»))
   check 3 (grantedOf (12 * l .«pages_len») s (l .«pages_offset»))
   good l
 
--- the lists that the header names: version, then offset and count of global opcodes, of personalities, of pages
+-- 2.1: the lists that the header names: version, then offset and count of global opcodes, of personalities, of pages
 unfoldable pub headerOf : List ℕ → Lists
 headerOf s =
     record { «global_opcodes_offset» = wordAt 4 s 4; «global_opcodes_len» = wordAt 4 s 8; «pages_offset» = wordAt 4 s 20; «pages_len» = wordAt 4 s 24 }
@@ -39,14 +39,14 @@ globalsOf s l = partOf s (l .«global_opcodes_offset») (4 * l .«global_opcodes
 unfoldable pub pagesOf : List ℕ → Lists → List ℕ
 pagesOf s l = partOf s (l .«pages_offset») (12 * l .«pages_len»)
 
--- page entry p: first_address, page_offset
+-- 2.2: page entry p: first_address, page_offset
 unfoldable pub firstIn : List ℕ → ℕ → ℕ
 firstIn pages p = keyOf pages Layout.Pages p
 
 unfoldable pub offsetIn : List ℕ → ℕ → ℕ
 offsetIn pages p = wordAt 4 pages (12 * p + 4)
 
--- a page is the part of the section that starts at its page_offset; the two kinds, without the local opcodes' check
+-- 2.3 to 2.5: a page is the part of the section that starts at its page_offset; the two kinds, without the local opcodes' check
 unfoldable pub regularOf : List ℕ → Checked Page
 regularOf page = do
   check 7 (grantedOf 8 page 0)
@@ -68,11 +68,11 @@ pageOf s offset first = do
   check 4 (grantedOf 4 s offset)
   byKind (wordAt 4 s offset) (drop offset s) first
 
--- the local opcodes; a regular page has none, so they are granted
+-- 2.5: the local opcodes; a regular page has none, so they are granted
 unfoldable pub localsGranted : List ℕ → Page → Bool
 localsGranted page pg = grantedOf (4 * pg .«local_opcodes_len») page (pg .«local_opcodes_offset»)
 
--- the page opened whole, as in iteration
+-- 2.5: the page opened whole, as in iteration
 unfoldable pub openOf : List ℕ → ℕ → ℕ → Checked Page
 openOf s offset first = do
   pg ← pageOf s offset first

@@ -1,4 +1,4 @@
--- Reading a little-endian number, over its width n in bytes: document 01, "Section layout".
+-- docs/FORMAT.md, 1.1 and 1.2: reading a little-endian number, over its width n in bytes.
 -- Assumes nothing.
 use Prim.Native.Nat.{ℕ, zero, suc, _+_, _*_, _<_}
 use mathlib.Core.List.{List}
@@ -10,12 +10,12 @@ use Rattle.reader.specs.declared.Read16.{Read16}
 use Rattle.reader.specs.declared.Read32.{Read32}
 use Rattle.reader.specs.declared.Read64.{Read64}
 
--- the number whose n bytes start at offset o, least significant first
+-- 1.1: the number whose n bytes start at offset o, least significant first
 unfoldable pub numberAt : ℕ → List ℕ → ℕ → ℕ
 numberAt zero s o = 0
 numberAt (suc n) s o = getD s o 0 + 256 * numberAt n s (suc o)
 
--- a read of n bytes at o is granted exactly if o + n is at most the length; whole numbers, so no sum wraps
+-- 1.2: a read of n bytes at o is granted exactly if o + n is at most the length; whole numbers, so no sum wraps
 unfoldable pub grantedOf : ℕ → List ℕ → ℕ → Bool
 grantedOf n s o = leb (o + n) (length s)
 

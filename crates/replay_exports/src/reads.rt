@@ -1,11 +1,11 @@
 // 1 is_granted: offset and bytes; 2, 3, 4 read_u16, read_u32, read_u64: offset. All of 64 bits.
 use crate::inputs::number;
 use crate::text::put;
-use exports::reads::ReadAnswer;
-use exports::reads::brasspurse_is_granted;
-use exports::reads::brasspurse_read_u16;
-use exports::reads::brasspurse_read_u32;
-use exports::reads::brasspurse_read_u64;
+use brasspurse::reads::ReadAnswer;
+use brasspurse::reads::brasspurse_is_granted;
+use brasspurse::reads::brasspurse_read_u16;
+use brasspurse::reads::brasspurse_read_u32;
+use brasspurse::reads::brasspurse_read_u64;
 
 pub fn answer(tag: u32, section: &[u8], asked: &[u8]) {
     let offset = number(asked, 0) as usize;

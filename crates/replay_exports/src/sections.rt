@@ -4,16 +4,16 @@
 use crate::inputs::room;
 use crate::text::put;
 use crate::text::put_32;
-use exports::sections::FillAnswer;
-use exports::sections::LookupAnswer;
-use exports::sections::NextAnswer;
-use exports::sections::RangeAnswer;
-use exports::sections::brasspurse_address_range_in;
-use exports::sections::brasspurse_fill;
-use exports::sections::brasspurse_fill_in;
-use exports::sections::brasspurse_lookup_batch;
-use exports::sections::brasspurse_lookup_in;
-use exports::sections::brasspurse_next_in;
+use brasspurse::sections::FillAnswer;
+use brasspurse::sections::LookupAnswer;
+use brasspurse::sections::NextAnswer;
+use brasspurse::sections::RangeAnswer;
+use brasspurse::sections::brasspurse_address_range_in;
+use brasspurse::sections::brasspurse_fill;
+use brasspurse::sections::brasspurse_fill_in;
+use brasspurse::sections::brasspurse_lookup_batch;
+use brasspurse::sections::brasspurse_lookup_in;
+use brasspurse::sections::brasspurse_next_in;
 use raw::Lists;
 use reader::u32_or_0;
 

@@ -1,12 +1,12 @@
 // 5 encode_permutation_6: count and six registers; 6, 7 opcode_kind, opcode_specific_bits: word; 8 register_x86_64: register. Of a register's
 // number the call gets the lowest 8 bits.
 use crate::text::put;
-use exports::permutations::EncodingAnswer;
-use exports::permutations::brasspurse_encode_permutation_6;
-use exports::words::RegisterAnswer;
-use exports::words::brasspurse_opcode_kind;
-use exports::words::brasspurse_opcode_specific_bits;
-use exports::words::brasspurse_register_x86_64;
+use brasspurse::permutations::EncodingAnswer;
+use brasspurse::permutations::brasspurse_encode_permutation_6;
+use brasspurse::words::RegisterAnswer;
+use brasspurse::words::brasspurse_opcode_kind;
+use brasspurse::words::brasspurse_opcode_specific_bits;
+use brasspurse::words::brasspurse_register_x86_64;
 
 pub fn answer(tag: u32, asked: &[u8]) {
     let word = reader::u32_or_0(asked, 0);

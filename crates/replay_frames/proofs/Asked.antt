@@ -7,7 +7,7 @@ use Rattle.step.specs.StepsX86 as stepsX86
 use Rattle.step.specs.StepsArm64 as stepsArm64
 use Rattle.step.specs.declared.«x86_64».«RegistersX86_64».{«RegistersX86_64»}
 use Rattle.step.specs.declared.arm64.«RegistersArm64».{«RegistersArm64»}
-use Rattle.exports.specs.Frames.{stepX86Answer, stepArm64Answer}
+use Rattle.brasspurse.specs.Frames.{stepX86Answer, stepArm64Answer}
 
 module _ {p q a b : ℕ} {xs ys : List ℕ} (e : p ≡ q) (f : a ≡ b) (g : xs ≡ ys) where
   pub registers-x86 : _≡_ {A = «RegistersX86_64»} (record { rip = p; rsp = a; saved = xs }) (record { rip = q; rsp = b; saved = ys })

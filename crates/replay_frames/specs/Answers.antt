@@ -8,9 +8,9 @@ use Rattle.step.specs.StepsX86 as stepsX86
 use Rattle.step.specs.StepsArm64 as stepsArm64
 use Rattle.step.specs.declared.«x86_64».«RegistersX86_64».{«RegistersX86_64»}
 use Rattle.step.specs.declared.arm64.«RegistersArm64».{«RegistersArm64»}
-use Rattle.exports.specs.Frames.{stepX86Answer, stepArm64Answer}
-use Rattle.exports.specs.declared.frames.«StepX86_64Answer».{«StepX86_64Answer»}
-use Rattle.exports.specs.declared.frames.«StepArm64Answer».{«StepArm64Answer»}
+use Rattle.brasspurse.specs.Frames.{stepX86Answer, stepArm64Answer}
+use Rattle.brasspurse.specs.declared.frames.«StepX86_64Answer».{«StepX86_64Answer»}
+use Rattle.brasspurse.specs.declared.frames.«StepArm64Answer».{«StepArm64Answer»}
 use Rattle.replay_frames.specs.Numbers.{numbersAt, recorded}
 use Rattle.replay_frames.specs.Places.{windowOf}
 

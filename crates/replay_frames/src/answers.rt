@@ -9,10 +9,10 @@ use crate::numbers::is_recorded;
 use crate::numbers::load;
 use crate::numbers::number;
 use crate::places::window;
-use exports::frames::StepArm64Answer;
-use exports::frames::StepX86_64Answer;
-use exports::frames::brasspurse_step_arm64;
-use exports::frames::brasspurse_step_x86_64;
+use brasspurse::frames::StepArm64Answer;
+use brasspurse::frames::StepX86_64Answer;
+use brasspurse::frames::brasspurse_step_arm64;
+use brasspurse::frames::brasspurse_step_x86_64;
 use step::arm64::RegistersArm64;
 use step::x86_64::RegistersX86_64;
 

@@ -1,5 +1,4 @@
-// Records of little-endian numbers of 64 bits: tag, opcode, base, the window's length in bytes, the registers given; the answer, which is
-// refusal, value and registers; then the window's bytes, filled up with zeros to whole numbers. Opcode and length are read from four bytes.
+// Where records and windows stand in the input; main.rt says how a record is laid out.
 ghost use mathlib.Core.Path.{_≡_};
 ghost use Prim.Native.Nat.{_<_};
 ghost use lib.ListN.{length};

@@ -9,10 +9,10 @@ use Rattle.reader.specs.Reader.{Told, value, outside, readOf}
 use Rattle.permutation.specs.Permutation.{decodeOf}
 use Rattle.opcodes.specs.WordsX86 as x86
 use Rattle.opcodes.specs.WordsArm64 as arm
-use Rattle.exports.specs.Flat.{permutationAnswer, x86Answer, arm64Answer}
-use Rattle.exports.specs.declared.permutations.PermutationAnswer.{PermutationAnswer}
-use Rattle.exports.specs.declared.words.«OpcodeX86_64Answer».{«OpcodeX86_64Answer»}
-use Rattle.exports.specs.declared.words.«OpcodeArm64Answer».{«OpcodeArm64Answer»}
+use Rattle.brasspurse.specs.Flat.{permutationAnswer, x86Answer, arm64Answer}
+use Rattle.brasspurse.specs.declared.permutations.PermutationAnswer.{PermutationAnswer}
+use Rattle.brasspurse.specs.declared.words.«OpcodeX86_64Answer».{«OpcodeX86_64Answer»}
+use Rattle.brasspurse.specs.declared.words.«OpcodeArm64Answer».{«OpcodeArm64Answer»}
 use Rattle.replay_opcodes.specs.declared.records.Tally.{Tally}
 
 abbrev pub orZero : Told → ℕ

@@ -1,4 +1,4 @@
-// Records of eight little-endian numbers of 32 bits: a tag, two inputs, and the five numbers of the answer.
+// How many records have a tag, and how many of them differ from ours; main.rt says how a record is laid out.
 ghost use mathlib.Core.Bool.{cond};
 ghost use mathlib.Core.Path.{_≡_};
 ghost use Prim.Native.Nat.{_+_, _≤_};
@@ -7,10 +7,10 @@ ghost use Rattle.replay_opcodes.specs.Records.{numberOr0, wordAt, rowOf,
 ghost use Rattle.permutation.specs.Permutation.{decodeOf};
 ghost use Rattle.opcodes.specs.WordsX86 as x86;
 ghost use Rattle.opcodes.specs.WordsArm64 as arm;
-ghost use Rattle.exports.specs.Flat.{permutationAnswer, x86Answer, arm64Answer};
-use exports::permutations::brasspurse_decode_permutation_6;
-use exports::words::brasspurse_parse_arm64;
-use exports::words::brasspurse_parse_x86_64;
+ghost use Rattle.brasspurse.specs.Flat.{permutationAnswer, x86Answer, arm64Answer};
+use brasspurse::permutations::brasspurse_decode_permutation_6;
+use brasspurse::words::brasspurse_parse_arm64;
+use brasspurse::words::brasspurse_parse_x86_64;
 use reader::Read16;
 use reader::Read32;
 

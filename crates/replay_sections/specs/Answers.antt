@@ -9,11 +9,11 @@ use Rattle.iterate.specs.Iterate.{nextOn, cursor}
 use Rattle.iterate.specs.Range.{rangeOn}
 use Rattle.lookup.specs.Lookup.{lookupOn}
 use Rattle.well_formed.specs.WellFormed.{wellFormed}
-use Rattle.exports.specs.Sections.{parseAnswer, rangeAnswer, lookupAnswer, nextAnswer}
-use Rattle.exports.specs.declared.sections.ParseAnswer.{ParseAnswer}
-use Rattle.exports.specs.declared.sections.RangeAnswer.{RangeAnswer}
-use Rattle.exports.specs.declared.sections.LookupAnswer.{LookupAnswer}
-use Rattle.exports.specs.declared.sections.NextAnswer.{NextAnswer}
+use Rattle.brasspurse.specs.Sections.{parseAnswer, rangeAnswer, lookupAnswer, nextAnswer}
+use Rattle.brasspurse.specs.declared.sections.ParseAnswer.{ParseAnswer}
+use Rattle.brasspurse.specs.declared.sections.RangeAnswer.{RangeAnswer}
+use Rattle.brasspurse.specs.declared.sections.LookupAnswer.{LookupAnswer}
+use Rattle.brasspurse.specs.declared.sections.NextAnswer.{NextAnswer}
 
 -- 0 none, 1 a function, 2 refused; the function's three numbers, and the probes
 abbrev pub lookupRow : LookupAnswer → List ℕ

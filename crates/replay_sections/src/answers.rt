@@ -5,13 +5,13 @@ ghost use Rattle.iterate.specs.Iterate.{nextOn};
 ghost use Rattle.iterate.specs.Range.{rangeOn};
 ghost use Rattle.lookup.specs.Lookup.{lookupOn};
 ghost use Rattle.well_formed.specs.WellFormed.{wellFormed};
-ghost use Rattle.exports.specs.Sections.{parseAnswer, rangeAnswer, lookupAnswer, nextAnswer};
+ghost use Rattle.brasspurse.specs.Sections.{parseAnswer, rangeAnswer, lookupAnswer, nextAnswer};
 ghost use Rattle.replay_sections.specs.Answers.{lookupRow, nextRow, parseRow, rangeRow, wellFormedRow, grantedRow, answerOf};
-use exports::sections::brasspurse_address_range;
-use exports::sections::brasspurse_is_well_formed;
-use exports::sections::brasspurse_lookup;
-use exports::sections::brasspurse_next;
-use exports::sections::brasspurse_parse;
+use brasspurse::sections::brasspurse_address_range;
+use brasspurse::sections::brasspurse_is_well_formed;
+use brasspurse::sections::brasspurse_lookup;
+use brasspurse::sections::brasspurse_next;
+use brasspurse::sections::brasspurse_parse;
 
 pub fn answer(section: &[u8], tag: u32, a: u32, b: u32) -> [u32; 7]
     ensures { λ r. ⌜ r ≡ answerOf (now (section .entry)) tag a b ⌝ }

@@ -1,5 +1,22 @@
-// Reads sections with recorded answers of the Rust from standard input, compares ours with them, and writes how many were compared and
-// how many differed. Controls are records with one number changed: each must differ.
+// Reads sections with recorded answers about them from standard input, compares ours with them, and writes how many were compared and
+// how many differed. Controls are records with one number of the answer changed: each must differ.
+//
+// A record is ten little-endian numbers of 32 bits: a tag, two inputs, and the seven numbers of the answer. A record with the tag 0 is a
+// section: its length is the first input, its bytes follow, filled up with zeros to a multiple of 4, and the records after it are about it.
+//
+//   1 lookup             address, 0     outcome, refusal, start, end, opcode, probes, 0
+//   2 call at a cursor   page, index    outcome, refusal, start, end, opcode, next page, next index
+//   3 parse              0, 0           1 or 2, refusal, global opcodes' offset and count, pages' offset and count, 0
+//   4 address range      0, 0           1 or 2, refusal, start, end, 0, 0, 0
+//   5 well formed        0, 0           1 or 0, and zeros
+//   101 to 105           their controls
+//
+// Outcome is 0 for none or the end, 1 for a function, 2 for a refusal; of a parse and a range 1, or 2 for a refusal. The file `stdin` has 61
+// sections: S, named cases, real ones and damaged ones; 610 questions, of which 436 answers are also the Rust's; and 84 controls. The other
+// answers (probes, cursors, whether it is well formed, what lies outside the Rust's domain) are the second reader's, which is written from
+// docs/FORMAT.md's rules and not from this code (compare/src/model.rs). It was made by
+//
+//   compare/run record-sections crates/replay_sections/stdin
 use libc::STDIN_FILENO;
 use libc::STDOUT_FILENO;
 use places::OTHER;

@@ -1,5 +1,4 @@
-// Records of ten little-endian numbers of 32 bits: a tag, two inputs, and the seven numbers of the answer. A record with the tag 0 is a
-// section: its bytes follow, as many as the first input says, padded to a multiple of 4, and the records after it are about that section.
+// Where records and sections stand in the input; main.rt says how a record is laid out.
 ghost use mathlib.Core.Path.{_≡_};
 ghost use Prim.Native.Nat.{_<_};
 ghost use lib.ListN.{length};

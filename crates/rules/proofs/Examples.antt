@@ -102,7 +102,7 @@ pub registers-told : map {B = Anchor × Anchor} (λ (c : CfaRegister). (rules-x8
     ≡ ((stack, stack) ∷ (register 5, register 10) ∷ [])
 registers-told = refl
 
--- Sound: the two of document 01's "Numbers to try", and one of each kind on arm64.
+-- Sound: the two words of section S (docs/FORMAT.md, 2.8), and one of each kind on arm64.
 
 -- rbx stored 8 below rbp
 pub frame-based-x86-64 : x86.Sound 0x01010001

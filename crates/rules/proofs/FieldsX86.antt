@@ -55,7 +55,7 @@ either o k ds (suc f ∷ fs) = go (decLt f 5) (decLt (8 * k) o) (decLt 0 (getD d
     go (yes a) (yes b) (no c) (inl t) = inl (a, b, omega arith, t)
     go (yes a) (yes b) (no c) (inr t) = inr (simp (lt-ltb f 5 a, lt-ltb (8 * k) o b, eq-eqb (getD ds f 0) 0 (omega arith)) t)
 
--- 01's conditions, of fields from field k on, none of them named among those before
+-- The conditions of docs/FORMAT.md, 9.2, of fields from field k on, none of them named among those before
 pub record Conditions (o k : ℕ) (ds fs : List ℕ) : Type 0 where
   pub named : (j : ℕ) → j < length fs → getD fs j 0 ≤ 5
   pub inside : (j : ℕ) → j < length fs → (getD fs j 0 ≡ 0 → ⊥) → 8 * (k + j) < o

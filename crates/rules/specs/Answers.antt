@@ -1,4 +1,4 @@
--- What rules answer, on every machine: document 01's numbers and values.
+-- docs/FORMAT.md, 10.1 and 11: what rules answer, on every machine; the refusals' numbers and values.
 -- Assumes nothing.
 use Prim.Native.Nat.{ℕ}
 use mathlib.Core.List.{List}
@@ -6,7 +6,7 @@ use Rattle.frame.specs.Frame.{Anchor, Return, Frame, distancesOf}
 use Rattle.rules.specs.declared.Refusal.{Refusal}
 use Rattle.rules.specs.declared.Outcome.{Outcome}
 
--- 01's number of a refusal and what it carries; 0 and 0 where nothing is refused
+-- a refusal's number and what it carries; 0 and 0 where nothing is refused
 pub record Number : Type 0 where
   pub number : ℕ
   pub value : ℕ

@@ -1,4 +1,4 @@
--- The rule of an opcode word of arm64: document 01, "One frame, and its prologue".
+-- docs/FORMAT.md, 10.1: the rule of an opcode word of arm64.
 -- Assumes nothing.
 use Prim.Native.Nat.{ℕ, suc, _+_, _*_}
 use mathlib.Core.List.{List, [], _∷_, _++_}
@@ -27,7 +27,7 @@ abbrev pub listedFrom : ℕ → List Bool → List ℕ
 listedFrom p [] = []
 listedFrom p (b ∷ bs) = cond b (pairPlace p ∷ suc (pairPlace p) ∷ []) [] ++ listedFrom (suc p) bs
 
--- Frame-based: x29 at CFA - 16, x30 at CFA - 8, the listed registers downwards from CFA - 24. Frameless: sp is lowered by size.
+-- 9.5. Frame-based: x29 at CFA - 16, x30 at CFA - 8, the listed registers downwards from CFA - 24. 9.6. Frameless: sp is lowered by size.
 abbrev pub byWord : words.Word → Ruling
 byWord words.null = refusal (numbered 20 0)
 byWord (words.frameless size) = ruling 20 (downwards.frameless 11 size)

@@ -1,4 +1,4 @@
--- The rule of an opcode word of x86_64: document 01, "One frame, and its prologue".
+-- docs/FORMAT.md, 10.1: the rule of an opcode word of x86_64.
 -- Assumes nothing.
 use Prim.Native.Nat.{ℕ, suc, _+_, _*_}
 use mathlib.Core.List.{List, [], _∷_}
@@ -20,16 +20,16 @@ use Rattle.rules.specs.declared.«x86_64».«RuleX86_64».{«RuleX86_64�
 abbrev pub refusal : Number → Ruling
 refusal k = record { refusal = k; anchor = stack; distance = 0; return = slot 8; below = replicate 6 0 }
 
--- Fields from field k on are sound: each is 0, or it is at most 5, 8k < offset, and no later field is the same.
+-- 9.2. Fields from field k on are sound: each is 0, or it is at most 5, 8k < offset, and no later field is the same.
 abbrev pub fieldsSound : ℕ → ℕ → List ℕ → Bool
 fieldsSound offset k [] = true
 fieldsSound offset k (f ∷ fs) = (eqb f 0 || (leb f 5 && ltb (8 * k) offset && not (member f fs))) && fieldsSound offset (suc k) fs
 
--- Frame-based: rbp at CFA - 16; field k, if not 0, at CFA - 16 - offset + 8k.
+-- 9.2. Frame-based: rbp at CFA - 16; field k, if not 0, at CFA - 16 - offset + 8k.
 abbrev pub based : ℕ → List ℕ → Ruling
 based offset fs = cond (fieldsSound offset 0 fs) (ruling 6 (fields.frameBased 8 5 offset fs)) (refusal (numbered 24 0))
 
--- Frameless immediate: the registers pushed, the last at CFA - 16; the size has room for them and the return address.
+-- 9.3. Frameless immediate: the registers pushed, the last at CFA - 16; the size has room for them and the return address.
 abbrev pub frameless : ℕ → List ℕ → Ruling
 frameless size xs = cond (leb (8 + 8 * length xs) size) (ruling 6 (pushes.frameless 8 size xs)) (refusal (numbered 24 0))
 

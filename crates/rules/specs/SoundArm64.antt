@@ -1,5 +1,5 @@
--- Sound words of arm64, their frames and their prologues, from the bits of the word: document 01, "One frame, and its prologue". Nothing here
--- knows how a word is decoded.
+-- docs/FORMAT.md, 9.1, 9.5 and 9.6: sound words of arm64, their frames and their prologues, from the bits of the word. Nothing here knows how a
+-- word is decoded.
 -- Assumes nothing.
 use Prim.Native.Nat.{ℕ, zero, suc, _+_, _*_, _<_}
 use mathlib.Core.Path.{_≡_}
@@ -22,7 +22,7 @@ abbrev pub pairs : ℕ → ℕ → ℕ → ℕ → List ℕ
 pairs w zero j p = []
 pairs w (suc n) j p = cond (eqb (bits j 1 w) 1) (p ∷ suc p ∷ []) [] ++ pairs w n (suc j) (p + 2)
 
--- Bits 0 to 4 are x19/x20 to x27/x28, places 0 to 9; bits 5 to 8 are d8/d9 to d14/d15, places 12 to 19. Places 10 and 11 are x29 and x30.
+-- 9.5. Bits 0 to 4 are x19/x20 to x27/x28, places 0 to 9; bits 5 to 8 are d8/d9 to d14/d15, places 12 to 19. Places 10 and 11 are x29 and x30.
 abbrev pub listed : ℕ → List ℕ
 listed w = pairs w 5 0 0 ++ pairs w 4 5 12
 
@@ -31,7 +31,7 @@ pub data Sound (w : ℕ) : Type 0 where
   frameBased : kindOf w ≡ 4 → Sound w
   frameless : kindOf w ≡ 2 → Sound w
 
--- The others, with the number that refuses them and what it carries.
+-- 10.1. The others, with the number that refuses them and what it carries.
 pub data Refused (w : ℕ) : Number → Type 0 where
   null : kindOf w ≡ 0 → Refused w (numbered 20 0)
   dwarf : kindOf w ≡ 3 → Refused w (numbered 21 (bits 0 24 w))

@@ -1,5 +1,5 @@
--- Sound words of x86_64, their frames and their prologues, from the bits of the word: document 01, "One frame, and its prologue". Nothing
--- here knows how a word is decoded.
+-- docs/FORMAT.md, 9.1 to 9.4: sound words of x86_64, their frames and their prologues, from the bits of the word. Nothing here knows how a word
+-- is decoded.
 -- Assumes nothing.
 use Prim.Native.Nat.{ℕ, zero, suc, _+_, _*_, _<_, _≤_}
 use mathlib.Core.Path.{_≡_}
@@ -31,7 +31,7 @@ fieldsFrom (suc n) k w = fieldOf k w ∷ fieldsFrom n (suc k) w
 abbrev pub fieldsOf : ℕ → List ℕ
 fieldsOf w = fieldsFrom 5 0 w
 
--- Sound: fields 0 to 5, none but 0 twice, field k not 0 only if 8k < offset.
+-- 9.2. Sound: fields 0 to 5, none but 0 twice, field k not 0 only if 8k < offset.
 pub record FrameBased (w : ℕ) : Type 0 where
   pub named : (k : ℕ) → k < 5 → fieldOf k w ≤ 5
   pub once : (j k : ℕ) → j < k → k < 5 → fieldOf j w ≡ fieldOf k w → fieldOf k w ≡ 0
@@ -41,7 +41,7 @@ pub record FrameBased (w : ℕ) : Type 0 where
 abbrev pub countOf : ℕ → ℕ
 countOf w = bits 10 3 w
 
--- The permutation is accepted and lists xs: as many distinct registers from 1 to 6 as the count, at most 6, whose digits' weighted sum is bits
+-- 9.3. The permutation is accepted and lists xs: as many distinct registers from 1 to 6 as the count, at most 6, whose digits' weighted sum is bits
 -- 0 to 9. With count 0 those bits may be any.
 pub record Listed (w : ℕ) (xs : List ℕ) : Type 0 where
   pub few : countOf w ≤ 6
@@ -54,7 +54,7 @@ pub data Sound (w : ℕ) : Type 0 where
   frameBased : kindOf w ≡ 1 → FrameBased w → Sound w
   frameless : (xs : List ℕ) → kindOf w ≡ 2 → Listed w xs → 8 + 8 * countOf w ≤ sizeOf w → Sound w
 
--- The others, with the number that refuses them and what it carries.
+-- 10.1. The others, with the number that refuses them and what it carries.
 pub data Refused (w : ℕ) : Number → Type 0 where
   null : kindOf w ≡ 0 → Refused w (numbered 20 0)
   dwarf : kindOf w ≡ 4 → Refused w (numbered 21 (bits 0 24 w))

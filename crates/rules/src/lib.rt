@@ -32,7 +32,7 @@ pub enum CfaRegister {
 }
 
 impl Refusal {
-    // Document 01's number.
+    // The refusal's number: docs/FORMAT.md, 11.
     pub fn number(self) -> u8
         ensures { λ r. ⌜ r ≡ refusalOf self .number ⌝ }
     {

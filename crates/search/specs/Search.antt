@@ -1,4 +1,4 @@
--- The bisection of document 01, "Finding and iterating": where it ends, and how many entries it probed.
+-- docs/FORMAT.md, 3.1 and 3.2: the bisection, where it ends, and how many entries it probed.
 -- Assumes nothing.
 use Prim.Native.Nat.{ℕ, zero, suc, _+_, _-_, _*_, _/_, _%_, _≤_, _<_}
 use mathlib.Core.List.{List}
@@ -10,7 +10,7 @@ use Rattle.search.specs.declared.Spot.{Spot}
 use Rattle.search.specs.declared.Spots.{Spots}
 use Rattle.search.specs.declared.Layout.{Layout}
 
--- the bytes of an entry, by the list's layout
+-- the bytes of an entry, by the list's layout: 2.2, 2.4, 2.5
 abbrev pub sizeOf : Layout → ℕ
 sizeOf Layout.Pages = 12
 sizeOf Layout.Regular = 8
@@ -53,7 +53,7 @@ searchOf list layout x = run (keyOf list layout) x 0 (countOf list layout)
 abbrev pub spotsOf : Spot → Spot → Spot → Spot → Spots
 spotsOf a b c d = record { a = a; b = b; c = c; d = d }
 
--- the first n keys rise strictly
+-- 3.1: the first n keys rise strictly
 abbrev pub Rising : (ℕ → ℕ) → ℕ → Type 0
 Rising key n = (i j : ℕ) → i < j → j < n → key i < key j
 

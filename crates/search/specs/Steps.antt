@@ -1,4 +1,4 @@
--- What the search's helpers promise. 01 fixes which entries are probed and how many; these probe the same ones.
+-- What the search's helpers promise. docs/FORMAT.md, 3.1 and 3.2, fix which entries are probed and how many; these probe the same ones.
 -- Assumes nothing.
 use Prim.Native.Nat.{ℕ, _+_, _*_, _/_, _^_, _≤_, _<_}
 use mathlib.Core.Path.{_≡_}

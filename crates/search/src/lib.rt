@@ -201,7 +201,7 @@ fn last(list: &[u8], layout: Layout, n: usize, x: u32, g: Going) -> Spot
     }
 }
 
-// Index and probes are those of 01's bisection. Written out for each layout: so the compiler knows it in every round, and tests it in none.
+// Index and probes are those of docs/FORMAT.md, 3. Written out for each layout: so the compiler knows it in every round, and tests it in none.
 pub fn search_pages(list: &[u8], x: u32) -> Spot
     ensures { λ r. ⌜ r ≡ searchOf (now (list .entry)) Layout.Pages x ⌝ }
 {

@@ -1,4 +1,4 @@
--- A refused step leaves every register as it was.
+-- docs/FORMAT.md, 10.3: a refused step leaves every register as it was.
 -- Assumes nothing.
 use Prim.Native.Nat.{ℕ, _+_, _-_, _^_}
 use mathlib.Core.Path.{_≡_, refl, ap, _∙_}

@@ -1,4 +1,4 @@
--- arm64: a step undoes the prologue of every sound word, and refuses the others.
+-- docs/FORMAT.md, 0.3, on arm64: a step undoes the prologue of every sound word, and refuses the others.
 -- Assumes nothing.
 use Prim.Native.Nat.{ℕ}
 use mathlib.Core.Path.{_≡_, ap, _∙_}

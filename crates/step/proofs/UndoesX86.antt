@@ -1,4 +1,4 @@
--- x86_64: a step undoes the prologue of every sound word, and refuses the others.
+-- docs/FORMAT.md, 0.3, on x86_64: a step undoes the prologue of every sound word, and refuses the others.
 -- Assumes nothing.
 use Prim.Native.Nat.{ℕ, _+_, _-_}
 use mathlib.Core.Path.{_≡_, refl, ap, _∙_}

@@ -1,5 +1,6 @@
--- Demand 3 has an instance of every kind: a machine at entry whose registers and bytes all differ, the prologue of a word that lists several
--- registers, a body that changes all that it may, and the step's answer in numbers, by `undoes`. So its hypotheses can be met, up to their bounds.
+-- Promise 0.3 of docs/FORMAT.md has an instance of every kind: a machine at entry whose registers and bytes all differ, the prologue of a word that
+-- lists several registers, a body that changes all that it may, and the step's answer in numbers, by `undoes`. So its hypotheses can be met, up to
+-- their bounds.
 -- Assumes nothing.
 use Prim.Native.Nat.{ℕ}
 use mathlib.Core.Path.{_≡_, refl}

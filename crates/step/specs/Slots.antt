@@ -1,4 +1,4 @@
--- For the contracts of helpers: what the functions over slots answer.
+-- For the contracts of helpers: what the functions over slots answer (docs/FORMAT.md, 10.2).
 -- Assumes nothing.
 use Prim.Native.Nat.{ℕ, _+_, _-_}
 use mathlib.Core.List.{List}

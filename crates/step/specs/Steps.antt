@@ -1,4 +1,4 @@
--- One step by a rule, on every machine: document 01, "One frame, and its prologue", and its numbers.
+-- docs/FORMAT.md, 10.2 and 10.3: one step by a rule, on every machine.
 -- Assumes nothing.
 use Prim.Native.Nat.{ℕ, _+_}
 use mathlib.Core.List.{List}

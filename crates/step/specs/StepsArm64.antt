@@ -1,4 +1,4 @@
--- A step by an opcode word of arm64: document 01, "One frame, and its prologue".
+-- docs/FORMAT.md, 10.2: a step by an opcode word of arm64.
 -- Assumes nothing.
 use Prim.Native.Nat.{ℕ}
 use mathlib.Core.List.{List}

@@ -1,5 +1,5 @@
--- On a well-formed section a lookup answers exactly the one iterated function that covers the address, or none; and the iteration
--- answers functions alone.
+-- docs/FORMAT.md, 0.2: on a well-formed section a lookup answers exactly the one iterated function that covers the address, or none; and the
+-- iteration answers functions alone.
 -- Assumes nothing.
 use Prim.Native.Nat.{ℕ}
 use mathlib.Core.Path.{_≡_, refl, ap, sym, _∙_}

@@ -1,4 +1,4 @@
--- The checker says yes exactly for well-formed sections.
+-- docs/FORMAT.md, 6: the checker says yes exactly for well-formed sections.
 -- Assumes nothing.
 use Prim.Native.Nat.{ℕ, zero, suc, _-_, _≤_, _<_}
 use mathlib.Core.Path.{_≡_, refl, sym, _∙_}

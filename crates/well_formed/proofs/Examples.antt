@@ -1,4 +1,4 @@
--- Document 01's section S, "Numbers to try", and a section T whose two pages are a regular and a compressed one: what they tell, by computation.
+-- Section S of docs/FORMAT.md, 2.8, and a section T whose two pages are a regular and a compressed one: what they tell, by computation.
 -- Assumes nothing.
 use Prim.Native.Nat.{ℕ, zero, suc, _+_, _*_, _/_, _%_, _<_}
 use mathlib.Core.Path.{_≡_, refl, ap}

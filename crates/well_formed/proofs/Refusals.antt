@@ -1,6 +1,6 @@
 -- A small section for each refusal 1 to 14, S with some bytes changed or cut off: what iteration and lookup tell of it, by computation. Where two
--- faults meet, the order of checks of document 01, "Finding and iterating", is seen: 2 before 3, 7 before 8, 9 before 10 before 11, 12 before 11,
--- 13 before 11 and 14, 11 before 14.
+-- faults meet, the order of checks of docs/FORMAT.md, 4.2 and 5.2, is seen: 2 before 3, 7 before 8, 9 before 10 before 11, 12 before 11, 13 before
+-- 11 and 14, 11 before 14.
 -- Assumes nothing.
 use Prim.Native.Nat.{ℕ, _+_}
 use mathlib.Core.Path.{_≡_, refl}

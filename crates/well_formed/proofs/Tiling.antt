@@ -1,4 +1,5 @@
--- On a well-formed section the functions that the calls tell cover the address range in order, without gap or overlap, each once.
+-- docs/FORMAT.md, 0.2: on a well-formed section the functions that the calls tell cover the address range in order, with no gap or overlap, each
+-- once.
 -- Assumes nothing.
 use Prim.Native.Nat.{ℕ, zero, suc, _+_, _-_, _≤_, _<_}
 use mathlib.Core.Path.{_≡_, refl, ap, _∙_}

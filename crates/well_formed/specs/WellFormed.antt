@@ -1,4 +1,4 @@
--- Which sections are well formed, document 01, "Finding and iterating"; and what their checker computes.
+-- docs/FORMAT.md, 6: which sections are well formed, and what their checker computes.
 -- Assumes nothing.
 use Prim.Native.Nat.{ℕ, zero, suc, _-_, _<_}
 use mathlib.Core.Path.{_≡_}

@@ -4,7 +4,7 @@ use borrow.Author.Needs.{needs}
 use mathlib.Core.Path.{ap, _∙_}
 use native.Mathlib.Omega.{arith}
 use denote.Ref.{now}
-use Rattle.exports.specs.declared.frames.«StepArm64Answer».{«StepArm64Answer»}
+use Rattle.brasspurse.specs.declared.frames.«StepArm64Answer».{«StepArm64Answer»}
 use Rattle.replay_frames.specs.Numbers.{recorded}
 use Rattle.replay_frames.specs.Answers.{arm64Row, arm64Agrees}
 use Rattle.replay_frames.proofs.answers.agrees_arm64.Statement.{statement}

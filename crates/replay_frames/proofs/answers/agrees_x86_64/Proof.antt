@@ -4,7 +4,7 @@ use borrow.Author.Needs.{needs}
 use mathlib.Core.Path.{ap, _∙_}
 use native.Mathlib.Omega.{arith}
 use denote.Ref.{now}
-use Rattle.exports.specs.declared.frames.«StepX86_64Answer».{«StepX86_64Answer»}
+use Rattle.brasspurse.specs.declared.frames.«StepX86_64Answer».{«StepX86_64Answer»}
 use Rattle.replay_frames.specs.Numbers.{recorded}
 use Rattle.replay_frames.specs.Answers.{x86Row, x86Agrees}
 use Rattle.replay_frames.proofs.answers.agrees_x86_64.Statement.{statement}

@@ -2,7 +2,7 @@
 -- Assumes nothing.
 use borrow.Author.Needs.{needs}
 use Rattle.reader.specs.Reader.{wordAt, orZero, told64}
-use Rattle.exports.proofs.Flattened.{known}
+use Rattle.brasspurse.proofs.Flattened.{known}
 use Rattle.replay_frames.proofs.numbers.number.Statement.{statement}
 use Rattle.replay_frames.proofs.numbers.number.Tie as tie
 

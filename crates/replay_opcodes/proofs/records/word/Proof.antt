@@ -2,7 +2,7 @@
 -- Assumes nothing.
 use borrow.Author.Needs.{needs}
 use Rattle.reader.specs.Reader.{told32}
-use Rattle.exports.proofs.Flattened.{known}
+use Rattle.brasspurse.proofs.Flattened.{known}
 use Rattle.replay_opcodes.specs.Records.{numberOr0, orZero}
 use Rattle.replay_opcodes.proofs.records.word.Statement.{statement}
 use Rattle.replay_opcodes.proofs.records.word.Tie as tie
