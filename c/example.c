@@ -9,34 +9,9 @@
 #include <stdio.h>
 #include <stdlib.h>
 
-static const char *const refusals[] = {
-    [BRASSPURSE_REFUSED_HEADER] = "header",
-    [BRASSPURSE_REFUSED_GLOBAL_OPCODES] = "global opcodes",
-    [BRASSPURSE_REFUSED_PAGES] = "pages",
-    [BRASSPURSE_REFUSED_PAGE_KIND] = "page kind",
-    [BRASSPURSE_REFUSED_UNEXPECTED_SENTINEL_PAGE] = "unexpected sentinel page",
-    [BRASSPURSE_REFUSED_INVALID_PAGE_KIND] = "invalid page kind",
-    [BRASSPURSE_REFUSED_REGULAR_PAGE] = "regular page",
-    [BRASSPURSE_REFUSED_REGULAR_PAGE_FUNCTIONS] = "regular page's functions",
-    [BRASSPURSE_REFUSED_COMPRESSED_PAGE] = "compressed page",
-    [BRASSPURSE_REFUSED_COMPRESSED_PAGE_FUNCTIONS] = "compressed page's functions",
-    [BRASSPURSE_REFUSED_LOCAL_OPCODES] = "local opcodes",
-    [BRASSPURSE_REFUSED_INVALID_PAGE_ENTRY_FIRST_ADDRESS] = "page entry's first address",
-    [BRASSPURSE_REFUSED_ADDRESS_TOO_LARGE] = "address too large",
-    [BRASSPURSE_REFUSED_LOCAL_INDEX] = "local index",
-    [BRASSPURSE_REFUSED_NULL] = "null word, or no function",
-    [BRASSPURSE_REFUSED_DWARF] = "DWARF word",
-    [BRASSPURSE_REFUSED_UNRECOGNIZED_KIND] = "unrecognised kind of word",
-    [BRASSPURSE_REFUSED_INVALID_FRAMELESS] = "invalid frameless word",
-    [BRASSPURSE_REFUSED_NOT_SOUND] = "word not sound",
-    [BRASSPURSE_REFUSED_FRAMELESS_INDIRECT] = "size in the code",
-    [BRASSPURSE_REFUSED_ABOVE_ADDRESSES] = "above all addresses",
-    [BRASSPURSE_REFUSED_OUTSIDE_WINDOW] = "slot outside the window",
-};
-
 static void print_refusal(uint32_t refusal)
 {
-    printf("refused %" PRIu32 ", %s\n", refusal, refusals[refusal]);
+    printf("refused %" PRIu32 ": %s\n", refusal, brasspurse_refusal_text(refusal));
 }
 
 /* The bytes of a file, which the caller frees, or NULL. */
@@ -52,7 +27,7 @@ static uint8_t *read_file(const char *name, size_t *len)
         size = ftell(file);
     rewind(file);
     if (size >= 0)
-        bytes = malloc((size_t)size + 1); /* of 0 bytes it may be NULL, which no call takes */
+        bytes = malloc((size_t)size + 1); /* of 0 bytes it may be NULL, which here is a failure */
     if (bytes != NULL) {
         *len = fread(bytes, 1, (size_t)size, file);
         if (*len != (size_t)size) {

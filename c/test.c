@@ -1,5 +1,6 @@
-/* Calls every function of brasspurse.h. The numbers expected are worked out from document 01. As
- * far as it goes no two fields of an answer are alike, so that two that changed places are seen. */
+/* Calls every function of brasspurse.h. The numbers expected are worked out by hand, from what
+ * docs/FORMAT.md says. As far as it goes no two fields of an answer are alike, so that two that
+ * changed places are seen. */
 #include "brasspurse.h"
 
 #include <inttypes.h>
@@ -43,7 +44,7 @@ PLACE(unwind_x86_64_answer, registers, 16);
 PLACE(unwind_arm64_answer, registers, 16);
 PLACE(read_answer, value, 8);
 
-/* Document 01's numbers. The calls below hold the library to the same names. */
+/* The refusals' numbers (docs/FORMAT.md, 11). The calls below hold the library to these names. */
 
 #define NUMBER(name, number) ASSERT(name, BRASSPURSE_##name == (number))
 
@@ -85,6 +86,7 @@ static void same(int line, const char *what, uint64_t got, uint64_t expected)
 }
 
 #define IS(got, expected) same(__LINE__, #got, got, expected)
+#define IS_TEXT(got, expected) IS(strcmp(got, expected) == 0, true)
 
 #define U16(x) (uint8_t)((x)&0xff), (uint8_t)((x) >> 8 & 0xff)
 #define U32(x) U16((x)&0xffff), U16((x) >> 16 & 0xffff)
@@ -101,7 +103,7 @@ static void same(int line, const char *what, uint64_t got, uint64_t expected)
 #define INDIRECT 0x032ab905
 #define PAIRS 0x040001ff
 
-/* Document 01's section S. */
+/* Section S (docs/FORMAT.md, 2.8). */
 static const uint8_t S[80] = {
     U32(1), U32(28), U32(1), U32(32), U32(0), U32(32), U32(2),      /* header */
     U32(0x01010001),                                                /* global opcode */
@@ -152,6 +154,35 @@ static void no_header(uint8_t section[sizeof T])
     memset(section, 0, 28);
 }
 
+static void texts(void)
+{
+    const uint32_t used[] = {0,  1,  2,  3,  4,  5,  6,  7,  8,  9,  10, 11, 12,
+                             13, 14, 20, 21, 22, 23, 24, 25, 26, 27, 28, 30};
+    const uint32_t others[] = {15, 16, 17, 18, 19, 29, 31, 256, 65536 + 1, UINT32_MAX};
+    const size_t n = sizeof used / sizeof used[0];
+    char version[32];
+
+    for (size_t i = 0; i < n; i++) {
+        const char *text = brasspurse_refusal_text(used[i]);
+
+        IS(text[0] != 0, true);
+        IS(strcmp(text, "unknown refusal") != 0, true);
+        for (size_t j = 0; j < i; j++)
+            IS(strcmp(text, brasspurse_refusal_text(used[j])) != 0, true);
+    }
+    for (size_t i = 0; i < sizeof others / sizeof others[0]; i++)
+        IS_TEXT(brasspurse_refusal_text(others[i]), "unknown refusal");
+    IS_TEXT(brasspurse_refusal_text(BRASSPURSE_NOT_REFUSED), "not refused");
+    IS_TEXT(brasspurse_refusal_text(BRASSPURSE_REFUSED_HEADER),
+            "the header lies outside the section");
+    IS_TEXT(brasspurse_refusal_text(BRASSPURSE_REFUSED_INPUT_TOO_LONG),
+            "the input has more than 65,536 bytes");
+
+    snprintf(version, sizeof version, "%d.%d.%d", BRASSPURSE_VERSION_MAJOR,
+             BRASSPURSE_VERSION_MINOR, BRASSPURSE_VERSION_PATCH);
+    IS_TEXT(version, BRASSPURSE_VERSION);
+}
+
 static void reads(void)
 {
     const uint8_t bytes[9] = {1, 2, 3, 4, 5, 6, 7, 8, 9};
@@ -187,7 +218,7 @@ static void reads(void)
 
 static void permutations(void)
 {
-    const uint8_t list[6] = {3, 1, 6, 4, 5, 2}, twice[6] = {3, 1, 6, 4, 5, 3};
+    const uint8_t list[6] = {3, 1, 6, 4, 5, 2}, twice[6] = {3, 1, 6, 4, 5, 3}, none[6] = {0};
     struct brasspurse_permutation_answer p;
     struct brasspurse_encoding_answer e;
 
@@ -200,6 +231,16 @@ static void permutations(void)
     for (int i = 0; i < 6; i++)
         IS(p.registers[i], 0);
 
+    p = brasspurse_decode_permutation_6(7, 0);
+    IS(p.refusal, BRASSPURSE_REFUSED_INVALID_FRAMELESS);
+    p = brasspurse_decode_permutation_6(0, UINT32_MAX);
+    IS(p.refusal, 0);
+    for (int i = 0; i < 6; i++)
+        IS(p.registers[i], 0);
+
+    e = brasspurse_encode_permutation_6(0, none);
+    IS(e.refusal, 0);
+    IS(e.encoding, 0);
     e = brasspurse_encode_permutation_6(6, list);
     IS(e.refusal, 0);
     IS(e.encoding, 261);
@@ -496,6 +537,39 @@ static void iteration(void)
     IS_LISTED(out, 0, 0);
 }
 
+/* A block with no room: lists that are not there are refused all the same, and nothing else is. */
+static void no_room(void)
+{
+    const struct brasspurse_lists lists = {28, 1, 32, 2};
+    uint32_t out[26];
+
+    memset(out, 0xee, sizeof out);
+    for (size_t room = 0; room < 3; room++) {
+        IS_FILL(brasspurse_fill(S, 0, 5, 7, out, room), 0, 5, 7, BRASSPURSE_FILL_REFUSED,
+                BRASSPURSE_REFUSED_HEADER);
+        IS_FILL(brasspurse_fill(S, 27, 5, 7, out, room), 0, 5, 7, BRASSPURSE_FILL_REFUSED,
+                BRASSPURSE_REFUSED_HEADER);
+        IS_FILL(brasspurse_fill(S, 31, 5, 7, out, room), 0, 5, 7, BRASSPURSE_FILL_REFUSED,
+                BRASSPURSE_REFUSED_GLOBAL_OPCODES);
+        IS_FILL(brasspurse_fill(S, 55, 5, 7, out, room), 0, 5, 7, BRASSPURSE_FILL_REFUSED,
+                BRASSPURSE_REFUSED_PAGES);
+        /* The lists are there: page 0's kind is not, or is; or it is the end. */
+        IS_FILL(brasspurse_fill(S, 56, 0, 0, out, room), 0, 0, 0, BRASSPURSE_FILL_FULL, 0);
+        IS_FILL(brasspurse_fill(S, 80, 0, 1, out, room), 0, 0, 1, BRASSPURSE_FILL_FULL, 0);
+        IS_FILL(brasspurse_fill(S, 80, 5, 7, out, room), 0, 5, 7, BRASSPURSE_FILL_FULL, 0);
+
+        IS_FILL(brasspurse_fill_in(S, 31, lists, 5, 7, out, room), 0, 5, 7,
+                BRASSPURSE_FILL_REFUSED, BRASSPURSE_REFUSED_GLOBAL_OPCODES);
+        IS_FILL(brasspurse_fill_in(S, 55, lists, 5, 7, out, room), 0, 5, 7,
+                BRASSPURSE_FILL_REFUSED, BRASSPURSE_REFUSED_PAGES);
+        IS_FILL(brasspurse_fill_in(S, 56, lists, 0, 0, out, room), 0, 0, 0, BRASSPURSE_FILL_FULL,
+                0);
+        IS_FILL(brasspurse_fill_in(S, 80, lists, 5, 7, out, room), 0, 5, 7, BRASSPURSE_FILL_FULL,
+                0);
+    }
+    IS_LISTED(out, 0, 0);
+}
+
 /* Registers that differ from each other and from all in a window. */
 static struct brasspurse_registers_x86_64 x86_64(uint64_t rsp, uint64_t rbp)
 {
@@ -609,6 +683,13 @@ static void rules(void)
         [BRASSPURSE_D11] = 128, [BRASSPURSE_D12] = 136, [BRASSPURSE_D13] = 144,
         [BRASSPURSE_D14] = 152, [BRASSPURSE_D15] = 160,
     };
+    const uint16_t d14_for_d8[20] = {
+        [BRASSPURSE_X30] = 8,  [BRASSPURSE_X29] = 16, [BRASSPURSE_X19] = 24,
+        [BRASSPURSE_X20] = 32, [BRASSPURSE_D14] = 40, [BRASSPURSE_D15] = 48,
+    };
+    const uint16_t no_d[20] = {
+        [BRASSPURSE_X30] = 8, [BRASSPURSE_X29] = 16, [BRASSPURSE_X19] = 24, [BRASSPURSE_X20] = 32,
+    };
     const uint16_t nothing[20] = {0};
 
     RULE_X86_64(FIELDS, 0, 0, 16, BRASSPURSE_CFA_FRAME_POINTER, fields);
@@ -625,6 +706,12 @@ static void rules(void)
     RULE_ARM64(0x00abcdef, BRASSPURSE_REFUSED_NULL, 0, 0, 0, nothing);
     RULE_ARM64(0x03abcdef, BRASSPURSE_REFUSED_DWARF, 0xabcdef, 0, 0, nothing);
     RULE_ARM64(0x07abcdef, BRASSPURSE_REFUSED_UNRECOGNIZED_KIND, 7, 0, 0, nothing);
+
+    /* As compilers mark x19/x20 with d8/d9, then with d10 to d15: not what the function saved. And
+     * a frameless word with all pairs. The top of the header says so. */
+    RULE_ARM64(0x04000101, 0, 0, 16, BRASSPURSE_CFA_FRAME_POINTER, d14_for_d8);
+    RULE_ARM64(0x04000e01, 0, 0, 16, BRASSPURSE_CFA_FRAME_POINTER, no_d);
+    RULE_ARM64(0x02004f1f, 0, 0, 64, BRASSPURSE_CFA_STACK_POINTER, nothing);
 }
 
 #define IS_STEP_X86_64(answer, number, says, after)                                                \
@@ -705,7 +792,7 @@ static void steps(void)
 
 static void unwinding(void)
 {
-    /* Document 01's P12: rbx, rbp and the return address from 0x7000 on. */
+    /* P12 (docs/FORMAT.md, 13.1): rbx, rbp and the return address from 0x7000 on. */
     const uint8_t window[24] = {U64(V(0)), U64(V(5)), U64(V(30))};
     const struct brasspurse_registers_x86_64 x = x86_64(0x6ff0, 0x7008);
     const struct brasspurse_registers_x86_64 y = x86_64(0x7000, 0x7030);
@@ -752,6 +839,108 @@ static void unwinding(void)
                     BRASSPURSE_REFUSED_NULL, 0, 1, a);
     IS_UNWIND_ARM64(brasspurse_unwind_arm64(arm, 79, 0x1050, a, 0x8000, pairs_frame, 160),
                     BRASSPURSE_REFUSED_LOCAL_OPCODES, 0, 3, a);
+}
+
+/* With length 0 any pointer does, NULL among them: every buffer of every call, with the same
+ * answers for both. */
+static void nothing_lent(void)
+{
+    const uint8_t byte[1] = {1};
+    const uint8_t *const bytes[2] = {byte, NULL};
+    uint32_t number[1] = {0xeeeeeeee}, out[26];
+    uint32_t *const numbers[2] = {number, NULL};
+    const uint32_t addresses[2] = {0x1000, 0x1040};
+    const struct brasspurse_lists none = {0, 0, 0, 0}, opcode = {0, 1, 0, 0}, page = {0, 0, 0, 1};
+    const struct brasspurse_lists past = {1, 0, 0, 0};
+    const struct brasspurse_registers_x86_64 x = x86_64(0x7000, 0x7030);
+    const struct brasspurse_registers_arm64 a = arm64(0x8000, 0x8090);
+    struct brasspurse_registers_arm64 leaf = a;
+    uint8_t arm[sizeof S];
+
+    memcpy(arm, S, sizeof S);
+    put(arm, 28, 0x02004000);
+    leaf.pc = a.saved[BRASSPURSE_X30];
+    leaf.sp = 0x8040;
+    memset(out, 0xee, sizeof out);
+
+    for (int i = 0; i < 2; i++) {
+        const uint8_t *const b = bytes[i];
+        uint32_t *const n = numbers[i];
+
+        IS(brasspurse_read_u16(b, 0, 0).granted, 0);
+        IS(brasspurse_read_u32(b, 0, 0).granted, 0);
+        IS(brasspurse_read_u64(b, 0, 0).granted, 0);
+        IS(brasspurse_is_granted(b, 0, 0, 0), true);
+        IS(brasspurse_is_granted(b, 0, 0, 1), false);
+        IS(brasspurse_is_granted(b, 0, 1, 0), false);
+
+        IS(brasspurse_parse(b, 0).refusal, BRASSPURSE_REFUSED_HEADER);
+        IS(brasspurse_is_well_formed(b, 0), false);
+        IS(brasspurse_address_range(b, 0).refusal, BRASSPURSE_REFUSED_HEADER);
+        IS(brasspurse_address_range_in(b, 0, none).refusal, 0);
+        IS(brasspurse_address_range_in(b, 0, none).end, 0);
+        IS(brasspurse_address_range_in(b, 0, opcode).refusal, BRASSPURSE_REFUSED_GLOBAL_OPCODES);
+        IS(brasspurse_address_range_in(b, 0, past).refusal, BRASSPURSE_REFUSED_GLOBAL_OPCODES);
+        IS(brasspurse_address_range_in(b, 0, page).refusal, BRASSPURSE_REFUSED_PAGES);
+
+        IS_LOOKUP(brasspurse_lookup(b, 0, 0x1000), 0, 0, 0, 0, BRASSPURSE_LOOKUP_REFUSED,
+                  BRASSPURSE_REFUSED_HEADER);
+        IS_LOOKUP(brasspurse_lookup_in(b, 0, none, 0x1000), 0, 0, 0, 0, BRASSPURSE_LOOKUP_NONE,
+                  0);
+        IS_LOOKUP(brasspurse_lookup_in(b, 0, page, 0x1000), 0, 0, 0, 0, BRASSPURSE_LOOKUP_REFUSED,
+                  BRASSPURSE_REFUSED_PAGES);
+        IS(brasspurse_lookup_batch(b, 0, addresses, 2, out, 26), 2);
+        for (size_t k = 0; k < 2; k++)
+            IS_LOOKUP(brasspurse_batch_answer(out, k), 0, 0, 0, 0, BRASSPURSE_LOOKUP_REFUSED,
+                      BRASSPURSE_REFUSED_HEADER);
+        IS(out[8], 0xeeeeeeee);
+        memset(out, 0xee, sizeof out);
+        IS(brasspurse_lookup_batch(S, 80, n, 0, out, 26), 0);
+        IS(brasspurse_lookup_batch(S, 80, addresses, 2, n, 0), 0);
+        IS(brasspurse_lookup_batch(b, 0, n, 0, n, 0), 0);
+        IS_LISTED(out, 0, 0);
+
+        IS_NEXT(brasspurse_next(b, 0, 5, 7), 0, 0, 0, 5, 7, BRASSPURSE_NEXT_REFUSED,
+                BRASSPURSE_REFUSED_HEADER);
+        IS_NEXT(brasspurse_next_in(b, 0, none, 5, 7), 0, 0, 0, 0, 0, BRASSPURSE_NEXT_END, 0);
+        IS_NEXT(brasspurse_next_in(b, 0, opcode, 5, 7), 0, 0, 0, 5, 7, BRASSPURSE_NEXT_REFUSED,
+                BRASSPURSE_REFUSED_GLOBAL_OPCODES);
+        IS_FILL(brasspurse_fill(b, 0, 5, 7, out, 26), 0, 5, 7, BRASSPURSE_FILL_REFUSED,
+                BRASSPURSE_REFUSED_HEADER);
+        IS_FILL(brasspurse_fill(b, 0, 5, 7, n, 0), 0, 5, 7, BRASSPURSE_FILL_REFUSED,
+                BRASSPURSE_REFUSED_HEADER);
+        IS_FILL(brasspurse_fill(S, 55, 5, 7, n, 0), 0, 5, 7, BRASSPURSE_FILL_REFUSED,
+                BRASSPURSE_REFUSED_PAGES);
+        IS_FILL(brasspurse_fill(S, 80, 0, 1, n, 0), 0, 0, 1, BRASSPURSE_FILL_FULL, 0);
+        IS_FILL(brasspurse_fill_in(b, 0, none, 5, 7, out, 26), 0, 0, 0, BRASSPURSE_FILL_END, 0);
+        IS_FILL(brasspurse_fill_in(b, 0, none, 5, 7, n, 0), 0, 5, 7, BRASSPURSE_FILL_FULL, 0);
+        IS_FILL(brasspurse_fill_in(b, 0, page, 5, 7, n, 0), 0, 5, 7, BRASSPURSE_FILL_REFUSED,
+                BRASSPURSE_REFUSED_PAGES);
+        IS_FILL(brasspurse_fill_in(T, sizeof T, t_lists, 1, 1, n, 0), 0, 1, 1,
+                BRASSPURSE_FILL_FULL, 0);
+        IS_LISTED(out, 0, 0);
+
+        IS_STEP_X86_64(brasspurse_step_x86_64(FIELDS, x, 0x7000, b, 0),
+                       BRASSPURSE_REFUSED_OUTSIDE_WINDOW, 0, x);
+        IS_STEP_X86_64(brasspurse_step_x86_64(PUSHES, x, UINT64_MAX, b, 0),
+                       BRASSPURSE_REFUSED_OUTSIDE_WINDOW, 0, x);
+        IS_STEP_ARM64(brasspurse_step_arm64(PAIRS, a, 0x8000, b, 0),
+                      BRASSPURSE_REFUSED_OUTSIDE_WINDOW, 0, a);
+        IS_STEP_ARM64(brasspurse_step_arm64(0x02004000, a, 0x8000, b, 0), 0, 0, leaf);
+
+        IS_UNWIND_X86_64(brasspurse_unwind_x86_64(b, 0, 0x1010, x, 0x7000, fields_frame, 64),
+                         BRASSPURSE_REFUSED_HEADER, 0, 0, x);
+        IS_UNWIND_X86_64(brasspurse_unwind_x86_64(S, 80, 0x1010, x, 0x7000, b, 0),
+                         BRASSPURSE_REFUSED_OUTSIDE_WINDOW, 0, 4, x);
+        IS_UNWIND_X86_64(brasspurse_unwind_x86_64(b, 0, 0x1010, x, 0, b, 0),
+                         BRASSPURSE_REFUSED_HEADER, 0, 0, x);
+        IS_UNWIND_ARM64(brasspurse_unwind_arm64(b, 0, 0x1010, a, 0x8000, pairs_frame, 160),
+                        BRASSPURSE_REFUSED_HEADER, 0, 0, a);
+        IS_UNWIND_ARM64(brasspurse_unwind_arm64(arm, 80, 0x1010, a, 0x8000, b, 0), 0, 0, 4, leaf);
+        IS_UNWIND_ARM64(brasspurse_unwind_arm64(b, 0, 0x1010, a, 0, b, 0),
+                        BRASSPURSE_REFUSED_HEADER, 0, 0, a);
+    }
+    IS(number[0], 0xeeeeeeee);
 }
 
 /* Each refusal of a section, from S: cut to `len` bytes, and with the number at `at` changed (at 0
@@ -813,6 +1002,7 @@ static void section_refusals(void)
 
 int main(void)
 {
+    texts();
     reads();
     permutations();
     words();
@@ -820,9 +1010,11 @@ int main(void)
     lookups();
     batches();
     iteration();
+    no_room();
     rules();
     steps();
     unwinding();
+    nothing_lent();
     section_refusals();
     printf("%u checks, %u failed\n", checks, failed);
     return failed != 0;

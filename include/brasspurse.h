@@ -1,5 +1,30 @@
 /* Brasspurse for C: finds the function that covers an address in an image's `__unwind_info`
- * section, and undoes one stack frame. Link libexports.a, which is x86-64 code for Linux.
+ * section, and undoes one stack frame. Link libbrasspurse.a, which is x86-64 code for Linux. The
+ * images may be x86_64's or arm64's (not 32-bit ones): a section does not say whose it is, so the
+ * caller picks the call.
+ *
+ * What is promised. It is proved of the library's sources, for all bytes and numbers:
+ * - A call ends, touches only what it was lent, and answers or refuses with a number.
+ * - The answer is the one that the repository defines, in the crates' specs/ and in words in
+ *   docs/FORMAT.md; the comments here say it in short. In a section that is well formed (see
+ *   brasspurse_is_well_formed) a lookup finds the function that covers the address if one does.
+ * - A step undoes the prologue that the opcode word describes, for every word that is not refused:
+ *   it gives the caller's registers. The function must have been stopped after its prologue and
+ *   before its epilogue, and its body must have left these as they were: the slots of the saved
+ *   registers and of the return address, the register that CFA (the caller's stack pointer after
+ *   the return) is counted from, and the preserved registers without a slot.
+ *
+ * Known to come out otherwise in real code, and not refused. Compilers write two kinds of arm64
+ * words of which this version reads less than they mean. pc, sp, x29 and x30 come out right; some
+ * other registers do not:
+ * - Frame-based words (kind 4) with a bit of 8 to 11 set. There compilers mark the saved pairs
+ *   d8/d9 to d14/d15; this version reads them from bits 5 to 8, as the Rust crate
+ *   macho-unwind-info does. The saved d registers come out as they are in the body, and where bit 8
+ *   is set, d14 and d15 come out as the caller's d8 and d9. x19 to x28 come out right.
+ * - Frameless words (kind 2) with a bit of 0 to 4 or 8 to 11 set. There too compilers mark saved
+ *   pairs; this version reads none. The saved registers come out as they are in the body.
+ * Refused, though real code has them: frames left to DWARF (21), and x86_64 frames whose size is in
+ * the function's code (25).
  *
  * Answers. A call answers a number, or a flat struct by value that says in a field of its own
  * which case it is. Any bytes and any numbers may be passed: what has no answer is refused, with
@@ -8,14 +33,16 @@
  *
  * Who owns what. The caller owns every buffer. A buffer is lent for the length of a call, as a
  * pointer and a number of elements; the call keeps no pointer, and allocates and frees nothing.
- * It writes only what is not behind `const`, and there only what its comment says. No pointer may
- * be NULL; with length 0 any other one does. A buffer lent to write must not overlap one lent to
- * read. Bytes may lie at any alignment, uint32_t as C aligns them.
+ * It writes only what is not behind `const`, and there only what its comment says. With length 0
+ * the pointer is not looked at and may be NULL, as an empty vector's may be; with another length it
+ * must point to that many elements. A buffer lent to write must not overlap one lent to read. Bytes
+ * may lie at any alignment, uint32_t as C aligns them.
  *
  * Threads. The functions have no state: threads may call them at once and lend the same buffers,
  * as long as none of these is written meanwhile.
  *
- * Addresses in a section have 32 bits and count from the image's start. */
+ * Addresses in a section have 32 bits and count from the image's start: take the address where the
+ * image lies off a program counter, and pass the rest only if it fits. */
 #ifndef BRASSPURSE_H
 #define BRASSPURSE_H
 
@@ -26,6 +53,12 @@
 #ifdef __cplusplus
 extern "C" {
 #endif
+
+/* This header's version. */
+#define BRASSPURSE_VERSION "0.2.0"
+#define BRASSPURSE_VERSION_MAJOR 0
+#define BRASSPURSE_VERSION_MINOR 2
+#define BRASSPURSE_VERSION_PATCH 0
 
 /* Refusals. 15 to 19 and 29 are not in use. */
 
@@ -89,6 +122,65 @@ enum brasspurse_refusal {
     BRASSPURSE_REFUSED_INPUT_TOO_LONG = 30
 };
 
+/* A refusal in short English, for messages. The text is the program's, and is not to be freed. */
+static inline const char *brasspurse_refusal_text(uint32_t refusal)
+{
+    switch (refusal) {
+    case BRASSPURSE_NOT_REFUSED:
+        return "not refused";
+    case BRASSPURSE_REFUSED_HEADER:
+        return "the header lies outside the section";
+    case BRASSPURSE_REFUSED_GLOBAL_OPCODES:
+        return "the list of global opcodes lies outside the section";
+    case BRASSPURSE_REFUSED_PAGES:
+        return "the list of pages lies outside the section";
+    case BRASSPURSE_REFUSED_PAGE_KIND:
+        return "a page's kind lies outside the section";
+    case BRASSPURSE_REFUSED_UNEXPECTED_SENTINEL_PAGE:
+        return "a page before the last one is a sentinel";
+    case BRASSPURSE_REFUSED_INVALID_PAGE_KIND:
+        return "a page's kind is unknown";
+    case BRASSPURSE_REFUSED_REGULAR_PAGE:
+        return "a regular page lies outside the section";
+    case BRASSPURSE_REFUSED_REGULAR_PAGE_FUNCTIONS:
+        return "a regular page's functions lie outside the section";
+    case BRASSPURSE_REFUSED_COMPRESSED_PAGE:
+        return "a compressed page lies outside the section";
+    case BRASSPURSE_REFUSED_COMPRESSED_PAGE_FUNCTIONS:
+        return "a compressed page's functions lie outside the section";
+    case BRASSPURSE_REFUSED_LOCAL_OPCODES:
+        return "a compressed page's local opcodes lie outside the section";
+    case BRASSPURSE_REFUSED_INVALID_PAGE_ENTRY_FIRST_ADDRESS:
+        return "the address's page has no function at or before it";
+    case BRASSPURSE_REFUSED_ADDRESS_TOO_LARGE:
+        return "a function's start or end is above 2^32 - 1";
+    case BRASSPURSE_REFUSED_LOCAL_INDEX:
+        return "a function's opcode index names no opcode";
+    case BRASSPURSE_REFUSED_NULL:
+        return "the opcode word is null, or no function covers the address";
+    case BRASSPURSE_REFUSED_DWARF:
+        return "the opcode word leaves the frame to DWARF";
+    case BRASSPURSE_REFUSED_UNRECOGNIZED_KIND:
+        return "the opcode word's kind is unknown";
+    case BRASSPURSE_REFUSED_INVALID_FRAMELESS:
+        return "there is no such permutation of registers";
+    case BRASSPURSE_REFUSED_NOT_SOUND:
+        return "the opcode word is not sound";
+    case BRASSPURSE_REFUSED_FRAMELESS_INDIRECT:
+        return "the frame's size stands in the function's code";
+    case BRASSPURSE_REFUSED_ABOVE_ADDRESSES:
+        return "the window's end or the caller's stack pointer is above 2^64 - 1";
+    case BRASSPURSE_REFUSED_OUTSIDE_WINDOW:
+        return "a slot that has to be read lies outside the window";
+    case BRASSPURSE_REFUSED_LIST:
+        return "the count or the list of registers is wrong";
+    case BRASSPURSE_REFUSED_INPUT_TOO_LONG:
+        return "the input has more than 65,536 bytes";
+    default:
+        return "unknown refusal";
+    }
+}
+
 /* Sections. `section` is the bytes of an `__unwind_info` section. */
 
 /* Where a section's two lists are. A call whose name ends in `_in` takes this and does not read
@@ -126,7 +218,8 @@ struct brasspurse_range_answer brasspurse_address_range_in(const uint8_t *sectio
                                                            struct brasspurse_lists lists);
 
 enum brasspurse_lookup_outcome {
-    BRASSPURSE_LOOKUP_NONE = 0,     /* the address is before the first page, or from the last on */
+    BRASSPURSE_LOOKUP_NONE = 0,     /* the address is before the first page, or from the last on,
+                                       or there is no page */
     BRASSPURSE_LOOKUP_FUNCTION = 1, /* start, end and opcode are there */
     BRASSPURSE_LOOKUP_REFUSED = 2   /* refusal is there */
 };
@@ -135,7 +228,7 @@ struct brasspurse_lookup_answer {
     uint32_t start;  /* the function's first address */
     uint32_t end;    /* the first address after it */
     uint32_t opcode; /* its opcode word */
-    uint16_t probes; /* how many entries the searches looked at, in every case */
+    uint16_t probes; /* how many entries the searches looked at, in every case; 0 after 1 to 3 */
     uint8_t outcome; /* an enum brasspurse_lookup_outcome */
     uint8_t refusal; /* 0, or 1 to 14 */
 };
@@ -177,7 +270,7 @@ static inline struct brasspurse_lookup_answer brasspurse_batch_answer(const uint
  * functions means the next page's first, and a page at or past the last one means the end. */
 
 enum brasspurse_next_outcome {
-    BRASSPURSE_NEXT_END = 0,      /* there are no more; the cursor stays at the last page */
+    BRASSPURSE_NEXT_END = 0,      /* there are no more; the cursor is the last page with index 0 */
     BRASSPURSE_NEXT_FUNCTION = 1, /* start, end and opcode are there */
     BRASSPURSE_NEXT_REFUSED = 2   /* refusal is there */
 };
@@ -203,7 +296,7 @@ struct brasspurse_next_answer brasspurse_next_in(const uint8_t *section, size_t 
 
 enum brasspurse_fill_outcome {
     BRASSPURSE_FILL_END = 0,    /* there are no more */
-    BRASSPURSE_FILL_FULL = 1,   /* there is no room for another, be there one or not */
+    BRASSPURSE_FILL_FULL = 1,   /* the lists are there; no room for another, be there one or not */
     BRASSPURSE_FILL_REFUSED = 2 /* refusal is there, and comes after the functions written */
 };
 
@@ -217,8 +310,11 @@ struct brasspurse_fill_answer {
 
 /* Writes the functions from the cursor on, as the calls of brasspurse_next one after the other
  * tell them: three numbers of `out` each, which are start, end and opcode. It stops at the end, at
- * a refusal, and when out_len / 3 are written. The numbers after them stay as they were. A loop
- * over blocks needs an out_len of 3 or more: with less, it is told "full" for ever. */
+ * a refusal, and when out_len / 3 are written. The numbers after them stay as they were. 1 to 3
+ * come before the room is looked at, so with any out_len; the end and the other refusals come only
+ * where there is room for another function. A loop over blocks goes on after a refusal of 4 to 14,
+ * ends after one of 1 to 3, and needs an out_len of 3 or more: with less, a section that parses is
+ * "full" for ever. */
 struct brasspurse_fill_answer brasspurse_fill(const uint8_t *section, size_t section_len,
                                               uint32_t page, uint32_t index, uint32_t *out,
                                               size_t out_len);
@@ -228,7 +324,8 @@ struct brasspurse_fill_answer brasspurse_fill_in(const uint8_t *section, size_t 
 
 /* Whether the section parses, its addresses rise strictly, its pages begin with a function at
  * their first address, and iteration refuses nothing. If so, no lookup in it is refused, and one
- * finds a function exactly if iteration lists it and start <= address < end. */
+ * finds a function exactly if iteration lists it and start <= address < end. It reads every
+ * function, so ask once for a section. */
 bool brasspurse_is_well_formed(const uint8_t *section, size_t section_len);
 
 /* Opcode words. Bits that a word's kind gives no meaning are ignored. */
@@ -248,8 +345,8 @@ struct brasspurse_register_answer brasspurse_register_x86_64(uint8_t n);
 enum brasspurse_word_x86_64 {                  /* value has: */
     BRASSPURSE_X86_64_NULL = 0,                /* 0 */
     BRASSPURSE_X86_64_FRAME_BASED = 1,         /* how many bytes below rbp field 0's slot lies */
-    BRASSPURSE_X86_64_FRAMELESS_IMMEDIATE = 2, /* the frame's size in bytes */
-    BRASSPURSE_X86_64_FRAMELESS_INDIRECT = 3,  /* where the function's code has the size */
+    BRASSPURSE_X86_64_FRAMELESS_IMMEDIATE = 2, /* the frame's size in bytes, up to CFA */
+    BRASSPURSE_X86_64_FRAMELESS_INDIRECT = 3,  /* which byte of the function the size stands at */
     BRASSPURSE_X86_64_DWARF = 4,               /* the low 24 bits */
     BRASSPURSE_X86_64_INVALID_FRAMELESS = 5,   /* 0: there is no such permutation */
     BRASSPURSE_X86_64_UNRECOGNIZED_KIND = 6    /* the kind */
@@ -260,20 +357,22 @@ struct brasspurse_opcode_x86_64_answer {
     uint8_t answer;                /* an enum brasspurse_word_x86_64 */
     uint8_t stack_adjust_in_bytes; /* frameless indirect: what to add to the size */
     uint8_t saved_regs[6];         /* register numbers, 0 for none. Frame-based: place k has field
-                                      k, also where it is 7. Frameless: as they are popped */
+                                      k, also where it is 7. Frameless: in the order in which
+                                      they are popped */
 };
 
 struct brasspurse_opcode_x86_64_answer brasspurse_parse_x86_64(uint32_t word);
 
 enum brasspurse_word_arm64 {               /* value has: */
     BRASSPURSE_ARM64_NULL = 0,             /* 0 */
-    BRASSPURSE_ARM64_FRAMELESS = 1,        /* the frame's size in bytes */
+    BRASSPURSE_ARM64_FRAMELESS = 1,        /* the frame's size in bytes, up to CFA */
     BRASSPURSE_ARM64_DWARF = 2,            /* the low 24 bits */
     BRASSPURSE_ARM64_FRAME_BASED = 3,      /* 0 */
     BRASSPURSE_ARM64_UNRECOGNIZED_KIND = 4 /* the kind */
 };
 
-/* Bits of saved_pairs. */
+/* Bits of saved_pairs. They are bits 0 to 8 of the word: where compilers write the d pairs is said
+ * at the top. */
 enum brasspurse_pair_arm64 {
     BRASSPURSE_PAIR_X19_X20 = 1,
     BRASSPURSE_PAIR_X21_X22 = 2,
@@ -302,6 +401,7 @@ struct brasspurse_permutation_answer {
     uint8_t registers[6]; /* as many different numbers from 1 to 6 as counted, then zeros */
 };
 
+/* A count above 6 is refused. With count 0 any encoding is accepted, and there are no registers. */
 struct brasspurse_permutation_answer brasspurse_decode_permutation_6(uint32_t count,
                                                                      uint32_t encoding);
 
@@ -311,7 +411,7 @@ struct brasspurse_encoding_answer {
 };
 
 /* The other way round. Takes a count up to 6 and, as `registers`, six numbers: as many different
- * ones from 1 to 6, then zeros. */
+ * ones from 1 to 6, then zeros. All six are read, so this pointer may not be NULL. */
 struct brasspurse_encoding_answer brasspurse_encode_permutation_6(uint32_t count,
                                                                   const uint8_t registers[6]);
 
@@ -356,7 +456,7 @@ enum brasspurse_cfa_register {
 };
 
 /* What a word says of its frame. The return address lies 8 below CFA on x86_64; on arm64 it is
- * x30, from its slot if it has one. */
+ * x30, from its slot if it has one. Where arm64 words of real functions mean more: see the top. */
 struct brasspurse_rule_x86_64_answer {
     uint32_t refusal;      /* 0, or 20 to 25 */
     uint32_t value;        /* for 21 DWARF's 24 bits, for 22 the kind */
@@ -400,9 +500,11 @@ struct brasspurse_step_arm64_answer {
     struct brasspurse_registers_arm64 registers;
 };
 
-/* Undoes the frame of a function with this opcode word, stopped after its prologue with these
- * registers. `window` is bytes of its stack, the first at address `base`; the slots to be read
- * must lie in it. */
+/* Undoes the frame of a function with this opcode word, stopped with these registers after its
+ * prologue and before its epilogue: elsewhere in it the answer may be wrong, and is not refused.
+ * `window` is bytes of its stack, the first at address `base`; the slots to be read must lie in it.
+ * The registers' own program counter is not looked at. On arm64 d registers, and after frameless
+ * words also x19 to x28, may come out wrong, unrefused: see the top. */
 struct brasspurse_step_x86_64_answer
 brasspurse_step_x86_64(uint32_t opcode, struct brasspurse_registers_x86_64 registers,
                        uint64_t base, const uint8_t *window, size_t window_len);
@@ -427,7 +529,9 @@ struct brasspurse_unwind_arm64_answer {
 };
 
 /* `address` is the program counter's, from the image's start; the registers' own is not looked at.
- * For a return address take one less: a call may be its function's last instruction. */
+ * For a return address take one less: a call may be its function's last instruction. What is said
+ * of a step holds here too. In a section that is not well formed the word may be that of a function
+ * which does not cover the address. */
 struct brasspurse_unwind_x86_64_answer
 brasspurse_unwind_x86_64(const uint8_t *section, size_t section_len, uint32_t address,
                          struct brasspurse_registers_x86_64 registers, uint64_t base,
