@@ -1,5 +1,7 @@
 //! Why there is no answer: every refusal by name, with its number. Numbers are turned into names
 //! and back here alone.
+//!
+//! A text is whole: an error that holds another prints that one's text, and is the chain's end.
 
 #![forbid(unsafe_code)]
 
@@ -250,7 +252,7 @@ impl PermutationError {
 
 /// The library's promises leave no other number.
 fn unknown(number: u32) -> ! {
-    panic!("refused {number}: libexports.a is of another release than this crate")
+    panic!("refused {number}: libbrasspurse.a is of another release than this crate")
 }
 
 impl From<ReadError> for Error {
@@ -331,27 +333,12 @@ impl Display for PermutationError {
     }
 }
 
+// No error has a source: its text says what those inside it say, and a chain says a thing once.
 impl std::error::Error for ReadError {}
+impl std::error::Error for Error {}
 impl std::error::Error for Refusal {}
+impl std::error::Error for UnwindError {}
 impl std::error::Error for PermutationError {}
-
-impl std::error::Error for Error {
-    fn source(&self) -> Option<&(dyn std::error::Error + 'static)> {
-        match self {
-            Error::ReadError(error) => Some(error),
-            _ => None,
-        }
-    }
-}
-
-impl std::error::Error for UnwindError {
-    fn source(&self) -> Option<&(dyn std::error::Error + 'static)> {
-        match self {
-            UnwindError::Lookup { error, .. } => Some(error),
-            UnwindError::Step { refusal, .. } => Some(refusal),
-        }
-    }
-}
 
 #[cfg(test)]
 mod tests {
@@ -394,5 +381,61 @@ mod tests {
             let same = |other: &&String| other.split_once(": ").map(|(_, what)| what) == what;
             assert_eq!(texts.iter().filter(same).count(), 1, "{text}");
         }
+    }
+
+    /// The texts of an error and of its sources, in the chain's order.
+    fn chain(error: &dyn std::error::Error) -> Vec<String> {
+        let sources = std::iter::successors(error.source(), |source| source.source());
+        let texts = sources.map(|source| source.to_string());
+        std::iter::once(error.to_string()).chain(texts).collect()
+    }
+
+    #[test]
+    fn a_chain_says_each_thing_once() {
+        let mut errors: Vec<Box<dyn std::error::Error>> = Vec::new();
+        for number in 1..=14 {
+            let error = Error::from_number(number);
+            if let Error::ReadError(read) = error {
+                assert_eq!(read.to_string(), error.to_string());
+                errors.push(read.into());
+            }
+            errors.push(error.into());
+            errors.push(UnwindError::from_number(number, 0, 7).into());
+        }
+        for number in 20..=27 {
+            errors.push(Refusal::from_number(number, 9).into());
+            errors.push(UnwindError::from_number(number, 9, 7).into());
+        }
+        for number in [23, 28] {
+            errors.push(PermutationError::from_number(number).into());
+        }
+        assert_eq!(errors.len(), 9 + 2 * 14 + 2 * 8 + 2);
+        for error in errors {
+            let texts = chain(&*error);
+            for (i, text) in texts.iter().enumerate() {
+                let said = |other: &String| other.contains(&text[..]) || text.contains(&other[..]);
+                assert!(!texts[..i].iter().any(said), "{texts:?}");
+            }
+        }
+    }
+
+    /// The walk itself finds a thing that is said twice.
+    #[test]
+    fn the_chain_of_another_error_is_walked_to_its_end() {
+        #[derive(Debug)]
+        struct Outer(Error);
+        impl Display for Outer {
+            fn fmt(&self, f: &mut Formatter) -> Result {
+                write!(f, "no caller: {}", self.0)
+            }
+        }
+        impl std::error::Error for Outer {
+            fn source(&self) -> Option<&(dyn std::error::Error + 'static)> {
+                Some(&self.0)
+            }
+        }
+        let text = "refused 6: a page's kind is unknown".to_owned();
+        let outer = format!("no caller: {text}");
+        assert_eq!(chain(&Outer(Error::InvalidPageKind)), [outer, text]);
     }
 }

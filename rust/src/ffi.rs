@@ -1,4 +1,4 @@
-//! The C interface of `libexports.a`: its answers, and a safe call for each function in use.
+//! The C interface of `libbrasspurse.a`: its answers, and a safe call for each function in use.
 //!
 //! The one module with unsafe code. Where a pointer is handed over, it is a slice's or an array's,
 //! with its length; the library goes no further and keeps no pointer. Every other argument may be

@@ -29,12 +29,28 @@
 //! # Ok::<(), Box<dyn std::error::Error>>(())
 //! ```
 //!
+//! # What a step gives
+//!
+//! The registers that the function's caller had when it called, with the return address as `rip` or
+//! `pc` and the stack pointer as it is after the return: by proof for every sound word
+//! (docs/FORMAT.md, 9), in a function whose prologue is the one that the word describes, stopped
+//! after it and before the epilogue, whose body kept to its limits (docs/FORMAT.md, 9.7). Where it is
+//! stopped in the prologue or the epilogue itself the answer may be wrong, and is not refused. A word
+//! that is not sound is refused.
+//!
 //! # Where real code differs
 //!
-//! Two sorts of arm64 words are read as the original reads them, and so real frames of theirs come
-//! out wrong. Of a frame-based word the d pairs are taken from bits 5 to 8; Apple's header and real
-//! code have them at bits 8 to 11. Of a frameless word the pair bits are ignored, though real code
-//! stores those pairs below CFA.
+//! Two sorts of arm64 words are read as the original reads them, and do not describe the prologues
+//! of real code. They are not refused. In all real frames that were tried:
+//!
+//! - **Frame-based words of functions that save d registers.** Apple's header and compilers have the
+//!   pairs d8/d9 to d14/d15 at bits 8 to 11; here they are read from bits 5 to 8. Of the caller's
+//!   registers d8 to d15 may come out wrong. `pc`, `sp` and x19 to x30 come out right.
+//! - **Frameless words with pair bits.** Compilers set these bits, 0 to 4 and 8 to 11, where a
+//!   function without a frame pointer stores pairs below CFA; here they are ignored. `pc` and `sp`
+//!   come out right. The registers that the function stored stay as they are in its body.
+//!
+//! Of x86_64 words nothing of the sort was found.
 
 #![forbid(unsafe_code)]
 
@@ -126,7 +142,9 @@ impl RuleX86_64 {
 }
 
 impl RuleArm64 {
-    /// The rule of a word; refuses with 20 to 22.
+    /// The rule of a word; refuses with 20 to 22. Real functions that save d registers, and frameless
+    /// ones that save any, lay their frames out otherwise: see
+    /// [the module](self#where-real-code-differs).
     pub fn parse(opcode: u32) -> Result<Self, Refusal> {
         let (cfa_register, cfa_distance, below) = ruled(ffi::rule_arm64(opcode))?;
         Ok(RuleArm64 {
@@ -165,6 +183,10 @@ pub fn step_x86_64(
 
 /// Undoes one frame of arm64 by its word; refuses with 20 to 22, 26 and 27. `window` is the stack
 /// from the address `base` on. Only the slots that the word names have to lie in it.
+///
+/// In frames of real functions that save d registers, and of frameless ones that save any, some of
+/// the caller's registers come out wrong and nothing is refused; `pc` and `sp` are right. See
+/// [the module](self#where-real-code-differs).
 pub fn step_arm64(
     opcode: u32,
     registers: RegistersArm64,

@@ -1,18 +1,9 @@
 //! Looks up and undoes stack frames by the `__unwind_info` section of a Mach-O image.
 //!
 //! The names are those of the crate macho-unwind-info 0.5.0, so that a service changes its
-//! dependency and little else. The answers come from `libexports.a`, whose functions are proved:
-//! what they promise leaves one answer to every input, and they give it. What is here turns these
-//! answers into the original's types; it is plain Rust, with unsafe code in one module alone.
-//!
-//! ```toml
-//! [dependencies]
-//! macho-unwind-info = { package = "brasspurse", path = "../brasspurse/rust" }
-//! ```
-//!
-//! The library is made by `rt staticlib exports`, in `target/staticlib`; `BRASSPURSE_LIB_DIR` names
-//! another folder. It is x86-64 code for Linux, and must be of the same release as this crate: a
-//! refusal that has no name here is a panic.
+//! dependency and little else. The answers come from the library `libbrasspurse.a`, whose functions
+//! are proved. What is here turns these answers into the original's types; it is plain Rust, tested
+//! and not proved, with unsafe code in one module alone.
 //!
 //! # A lookup
 //!
@@ -30,6 +21,85 @@
 //! # Ok::<(), Box<dyn std::error::Error>>(())
 //! ```
 //!
+//! # What is promised
+//!
+//! Of the library's answers, by proof; docs/FORMAT.md has the terms, and in its part 0 the promises
+//! at length.
+//!
+//! - Any bytes, addresses, words, registers and windows may be given. Every call ends, reads and
+//!   writes only what it was lent, and answers or refuses with a number.
+//! - In a well-formed section ([`is_well_formed`]) no lookup and no iteration refuses, and a lookup
+//!   gives the one iterated function that covers the address, or `None` where there is none. In any
+//!   other section it gives what its bisection finds, which may be a function that does not cover
+//!   the address.
+//! - A step undoes the prologue that the word describes. This is so of every sound word
+//!   (docs/FORMAT.md, 9), in a function that is stopped after its prologue and before its epilogue,
+//!   and whose body kept to its limits. Any other word is refused.
+//!
+//! It is not promised that a compiler's word describes the prologue that the compiler wrote. Of two
+//! sorts of arm64 words it is known that it doesn't, as this crate and the original read them; they
+//! are not refused, and registers of the caller come out wrong. They are frame-based words of
+//! functions that save d registers, and frameless words of functions that save anything:
+//! [`frames`](frames#where-real-code-differs) says what comes out. Real code also has words that are
+//! refused: with 21 where the frame is in `__eh_frame`, with 25 where its size stands in the code.
+//!
+//! # Building
+//!
+//! The library is made by `scripts/archive`, which calls `rt staticlib brasspurse`, in
+//! `target/staticlib`, where the build looks for it. `BRASSPURSE_LIB_DIR` names another folder, by an
+//! absolute path. It is x86-64 code for Linux, and the build says so and stops for any other target.
+//! On another machine build with `--target x86_64-unknown-linux-gnu` and a linker for it, and run
+//! under an emulator. Library and crate must be of the same release: a refusal that has no name here
+//! is a panic.
+//!
+//! # Moving a service over
+//!
+//! The dependency's line changes:
+//!
+//! ```toml
+//! [dependencies]
+//! macho-unwind-info = { package = "brasspurse", path = "../brasspurse/rust" }
+//! ```
+//!
+//! A service that was written against 0.5.0, without `raw` and 32-bit words (`tests/service.rs`),
+//! then needed this, and no more:
+//!
+//! - Its `match` on [`Error`] that named every variant did not compile: it got arms for
+//!   [`Error::AddressTooLarge`] and [`Error::LocalIndex`].
+//! - Its tests of texts failed: those of words and of errors are others.
+//! - Its test that an [`Error::ReadError`] has a [`ReadError`] as `source()` failed: here it has none.
+//!
+//! # What the original has and this crate hasn't
+//!
+//! | the original | here | instead |
+//! |---|---|---|
+//! | the module `raw`: header, pages and entries as they lie in the section, `consts` | missing | [`UnwindInfo::functions`], [`lookup`](UnwindInfo::lookup) and [`address_range`](UnwindInfo::address_range) give what they lead to; for personalities and LSDAs, the original beside this crate, as below |
+//! | `opcodes::OpcodeX86` and `RegisterNameX86`, the 32-bit words | missing | the same: it can parse the `opcode` that a lookup here gave |
+//! | `Display` of words, as "CFA=reg6+16: reg6=\[CFA-16\]" | another text | [`frames::RuleX86_64`] and [`frames::RuleArm64`] have the distances as numbers |
+//! | `Display` of errors, as "Invalid page kind" | another text, with the refusal's number | the variant, or `number()` |
+//! | `source()` of [`Error::ReadError`], whose text the error's own repeats | none: a text is whole, and a chain says each thing once | the variant |
+//! | `Debug` of [`OpcodeBitfield`](opcodes::OpcodeBitfield), with the parts by name | derived: the word as one number | its methods |
+//! | plain Rust, for any target | x86-64 Linux alone, and a library to be made first | see "Building" |
+//!
+//! All other public items are here, with the same signatures, fields and traits: `tests/items.rs`
+//! names each, and compiles against the original too. Both crates can be had at once:
+//!
+//! ```toml
+//! original = { package = "macho-unwind-info", version = "0.5" }  # then original::raw
+//! ```
+//!
+//! # What differs in answers
+//!
+//! - [`Error::AddressTooLarge`] and [`Error::LocalIndex`] are new. There the original's sums wrap,
+//!   or it panics.
+//! - In a section whose addresses don't rise, a lookup finds what its bisection finds; the
+//!   original's may find another entry.
+//! - After an error [`FunctionIter::next`] goes on behind what was refused. The original does so
+//!   too, where it doesn't panic.
+//!
+//! On all other input `parse`, `address_range`, `lookup`, `functions` and the words' `parse` gave
+//! what the original gives, wherever they were compared (docs/DIFFERENCES.md).
+//!
 //! # What is added
 //!
 //! - Refusals have numbers: every error type has `number()`. [`Error`] has 1 to 14, [`Refusal`] 20
@@ -42,25 +112,9 @@
 //! - [`is_well_formed`] says whether a section has nothing wrong in it.
 //! - [`opcodes::decode_permutation_6`] is public, and [`opcodes::encode_permutation_6`] is its
 //!   inverse.
+//! - [`RegisterNameX86_64`](opcodes::RegisterNameX86_64) has `COUNT` and `dwarf_number`.
 //!
-//! # What differs from the original
-//!
-//! - [`Error::AddressTooLarge`] and [`Error::LocalIndex`] are new. There the original's sums wrap,
-//!   or it panics. A `match` on `Error` that names every variant needs two arms more.
-//! - In a section whose addresses don't rise, a lookup finds what its bisection finds; the
-//!   original's may find another entry.
-//! - After an error [`FunctionIter::next`] goes on behind what was refused. The original does so
-//!   too, where it doesn't panic.
-//! - `Display` of words and errors, and `Debug` of [`opcodes::OpcodeBitfield`], print another text.
-//!
-//! On all other input `parse`, `address_range`, `lookup`, `functions` and the words' `parse` give
-//! what the original gives.
-//!
-//! # What is left out
-//!
-//! The module `raw`; 32-bit words (`OpcodeX86`, `RegisterNameX86`); `is_function_start`, `has_lsda`
-//! and `personality_index` of `OpcodeBitfield`. Frames that `__eh_frame` describes are not
-//! unwound, and symbols not named.
+//! Frames that `__eh_frame` describes are not unwound, and symbols not named.
 
 #![deny(unsafe_code)]
 #![warn(missing_docs)]

@@ -51,7 +51,8 @@ impl<'a> UnwindInfo<'a> {
     }
 
     /// The function that covers an address, counted from the image's start; `None` where there is
-    /// none. Refuses with 4 to 14.
+    /// none. Refuses with 4 to 14. In a section that is not well formed it may be a function that
+    /// does not cover the address: compare with its `start_address` and `end_address`.
     pub fn lookup(&self, pc: u32) -> Result<Option<Function>, Error> {
         self.lookup_with_probes(pc).function()
     }
@@ -108,6 +109,10 @@ impl<'a> UnwindInfo<'a> {
     }
 
     /// The same on arm64, where 23 to 25 don't arise.
+    ///
+    /// In frames of real functions that save d registers, and of frameless ones that save any, some
+    /// of the caller's registers come out wrong and nothing is refused; `pc` and `sp` are right. See
+    /// [`frames`](crate::frames#where-real-code-differs).
     pub fn unwind_arm64(
         &self,
         address: u32,

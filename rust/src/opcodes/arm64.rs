@@ -5,12 +5,16 @@
 use crate::ffi;
 use std::fmt::{Display, Formatter, Result};
 
-/// What a word of arm64 says.
+/// What a word of arm64 says, as the original reads it.
+///
+/// Compilers mean something else by two sorts of words; each variant says by which, and
+/// [`frames`](crate::frames#where-real-code-differs) what it does to a step.
 #[derive(Copy, Clone, Debug, PartialEq, Eq)]
 pub enum OpcodeArm64 {
     /// Nothing.
     Null,
-    /// The frame has no frame pointer; the return address is in x30.
+    /// The frame has no frame pointer; the return address is in x30. The low 12 bits are not read,
+    /// though compilers mark pairs there that the function stored.
     Frameless {
         /// From the stack pointer to CFA.
         stack_size_in_bytes: u16,
@@ -20,8 +24,9 @@ pub enum OpcodeArm64 {
         /// Where: the low 24 bits.
         eh_frame_fde: u32,
     },
-    /// The frame has a frame pointer. The d pairs are read from bits 5 to 8, as in the original;
-    /// [`frames`](crate::frames) says where real code has them.
+    /// The frame has a frame pointer. The d pairs are read from bits 5 to 8, though compilers have
+    /// them at bits 8 to 11: of a compiler's word with d pairs the five `x…_saved` are right, the
+    /// four `d…_saved` and the count may be wrong.
     #[allow(missing_docs)]
     FrameBased {
         saved_reg_pair_count: u8,

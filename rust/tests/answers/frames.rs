@@ -8,7 +8,8 @@ use macho_unwind_info::frames::{
 };
 use macho_unwind_info::{Error, ReadError, Refusal, UnwindError, UnwindInfo};
 
-/// Document 01's worked window, from 0x7000 to 0x7018: rbx, rbp and the return address.
+/// The worked example P12 (docs/FORMAT.md, 13.1): a window from 0x7000 to 0x7018 with rbx, rbp and
+/// the return address.
 const P12: u32 = 0x0101_0001;
 const BASE: u64 = 0x7000;
 
@@ -292,16 +293,23 @@ fn the_combined_call_passes_a_steps_refusal_on() {
     }
 }
 
+/// The text is that of the lookup's error or the step's refusal, and ends the chain: a report that
+/// prints an error with its sources says each thing once.
 #[test]
-fn a_refusal_is_an_errors_cause() {
+fn an_unwind_errors_text_is_whole() {
     let error = refused_x86_64(&s(), 0x1100, BASE, &window());
-    let cause = std::error::Error::source(&error).unwrap();
-    assert_eq!(cause.downcast_ref::<Refusal>(), Some(&Refusal::Null));
     let text = "refused 20: there is no word, or a null one";
     assert_eq!(error.to_string(), text);
+    assert_eq!(error.to_string(), Refusal::Null.to_string());
+    assert!(std::error::Error::source(&error).is_none());
 
     let error = refused_x86_64(&s()[..79], 0x1040, BASE, &window());
-    let cause = std::error::Error::source(&error).unwrap();
-    let expected = Error::ReadError(ReadError::LocalOpcodes);
-    assert_eq!(cause.downcast_ref::<Error>(), Some(&expected));
+    let inner = Error::ReadError(ReadError::LocalOpcodes);
+    let text = "refused 11: a compressed page's local opcodes lie outside the section";
+    assert_eq!(
+        (error.to_string(), inner.to_string()),
+        (text.into(), text.into())
+    );
+    assert!(std::error::Error::source(&error).is_none());
+    assert!(std::error::Error::source(&inner).is_none());
 }

@@ -2,44 +2,60 @@
 
 #![forbid(unsafe_code)]
 
+use std::fs::OpenOptions;
 use std::io::Write;
 use std::path::PathBuf;
 
-/// Document 01's section S, 80 bytes.
+/// Section S, 80 bytes (docs/FORMAT.md, 2.8).
 pub fn s() -> Vec<u8> {
     read(concat!(env!("CARGO_MANIFEST_DIR"), "/../sections/s.bin").into())
 }
 
-/// The folder of real sections and frames, if there is one.
-pub fn corpus() -> Option<PathBuf> {
-    let folder = std::env::var_os("BRASSPURSE_CORPUS")
-        .unwrap_or_else(|| concat!(env!("CARGO_MANIFEST_DIR"), "/../../shared/corpus").into());
-    let folder = PathBuf::from(folder);
+/// The folder of real sections and frames. Where there is none, the test that asks, by its name, is
+/// said to be skipped.
+pub fn corpus(test: &str) -> Option<PathBuf> {
+    let default = concat!(env!("CARGO_MANIFEST_DIR"), "/../../shared/corpus");
+    let folder = named("BRASSPURSE_CORPUS").unwrap_or_else(|| default.into());
     if folder.is_dir() {
         return Some(folder);
     }
-    // Straight to the stream: what `eprintln` says, a test that passes keeps to itself.
-    let said = format!("real sections skipped: there is no {}\n", folder.display());
-    std::io::stderr().write_all(said.as_bytes()).unwrap();
+    skipped(test);
     None
 }
 
-/// Real sections with their files' paths, by name; none where there is no folder.
-pub fn real_sections() -> Vec<(PathBuf, Vec<u8>)> {
-    let folder = match corpus() {
-        Some(corpus) => corpus.join("sections"),
-        None => return Vec::new(),
-    };
-    let entries = std::fs::read_dir(&folder).unwrap();
+/// The path that a variable names; an empty one names none.
+fn named(variable: &str) -> Option<PathBuf> {
+    let path = std::env::var_os(variable).filter(|path| !path.is_empty());
+    path.map(PathBuf::from)
+}
+
+/// Says so on standard error, and in the file that `BRASSPURSE_SKIPPED` names, whose lines `rust/run`
+/// counts.
+fn skipped(test: &str) {
+    let said = format!("skipped: {test}, no corpus\n");
+    // Straight to the stream: what `eprintln` says, a test that passes keeps to itself.
+    std::io::stderr().write_all(said.as_bytes()).unwrap();
+    if let Some(file) = named("BRASSPURSE_SKIPPED") {
+        let file = OpenOptions::new().append(true).create(true).open(file);
+        file.unwrap().write_all(said.as_bytes()).unwrap();
+    }
+}
+
+/// Real sections with their files' paths, by name, at least one; nothing where the test is skipped.
+pub fn real_sections(test: &str) -> Option<Vec<(PathBuf, Vec<u8>)>> {
+    let folder = corpus(test)?.join("sections");
+    let entries =
+        std::fs::read_dir(&folder).unwrap_or_else(|e| panic!("{}: {e}", folder.display()));
     let mut paths: Vec<PathBuf> = entries.map(|entry| entry.unwrap().path()).collect();
     paths.retain(|path| path.extension().map_or(false, |found| found == "bin"));
     paths.sort();
     assert!(!paths.is_empty(), "no sections in {}", folder.display());
     let with_bytes = |path: PathBuf| (path.clone(), read(path));
-    paths.into_iter().map(with_bytes).collect()
+    Some(paths.into_iter().map(with_bytes).collect())
 }
 
-fn read(path: PathBuf) -> Vec<u8> {
+/// A file's bytes; without the file the test fails, and names it.
+pub fn read(path: PathBuf) -> Vec<u8> {
     std::fs::read(&path).unwrap_or_else(|e| panic!("{}: {e}", path.display()))
 }
 

@@ -225,15 +225,13 @@ fn long_sections_are_iterated_whole() {
 }
 
 #[test]
-fn an_error_converts_and_tells_its_cause() {
+fn an_error_converts_and_prints() {
     fn fails() -> Result<(), Error> {
         Err(ReadError::Pages)?
     }
     let error = fails().unwrap_err();
     assert_eq!(error, Error::ReadError(ReadError::Pages));
     assert_eq!((error.number(), ReadError::Pages.number()), (3, 3));
-    let cause = std::error::Error::source(&error).unwrap();
-    assert_eq!(cause.downcast_ref::<ReadError>(), Some(&ReadError::Pages));
     let text = "refused 3: the list of pages lies outside the section";
     assert_eq!(error.to_string(), text);
 }

@@ -128,6 +128,38 @@ fn a_bitfield_has_its_parts() {
     }
 }
 
+/// Bit 31, bit 30, and bits 28 and 29, by hand and by the original's own expressions.
+#[test]
+fn a_bitfield_has_the_four_bits_above_its_kind() {
+    let bits = |word| {
+        let bits = OpcodeBitfield::new(word);
+        (
+            bits.is_function_start(),
+            bits.has_lsda(),
+            bits.personality_index(),
+        )
+    };
+    assert_eq!(bits(0x0101_0001), (false, false, 0));
+    assert_eq!(bits(0x1101_0001), (false, false, 1));
+    assert_eq!(bits(0x2101_0001), (false, false, 2));
+    assert_eq!(bits(0x4101_0001), (false, true, 0));
+    assert_eq!(bits(0x7203_0800), (false, true, 3));
+    assert_eq!(bits(0x8101_0001), (true, false, 0));
+    assert_eq!(bits(0x0fff_ffff), (false, false, 0));
+    assert_eq!(bits(0xf000_0000), (true, true, 3));
+    for top in 0..16 {
+        for rest in [0, 0x0101_0001, 0x0fff_ffff] {
+            let word = top << 28 | rest;
+            let original = (
+                word >> 31 == 1,
+                (word >> 30) & 0b1 == 1,
+                ((word >> 28) & 0b11) as u8,
+            );
+            assert_eq!(bits(word), original, "{word:#010x}");
+        }
+    }
+}
+
 #[test]
 fn six_numbers_name_registers() {
     let registers = [Rbx, R12, R13, R14, R15, Rbp];
