@@ -4,7 +4,7 @@ use std::env;
 use std::path::{Path, PathBuf};
 
 fn main() {
-    link_exports(&folder("BRASSPURSE_LIB_DIR"));
+    link_library(&folder("BRASSPURSE_LIB_DIR"));
     let sources = folder("BRASSPURSE_REGISTRY").join("macho-unwind-info-0.3.0/src");
     for file in ["opcodes/permutation.rs", "reader.rs"] {
         copy(&sources.join(file));
@@ -19,11 +19,11 @@ fn folder(variable: &str) -> PathBuf {
         .into()
 }
 
-fn link_exports(folder: &Path) {
+fn link_library(folder: &Path) {
     let folder = folder.display();
-    println!("cargo:rerun-if-changed={folder}/libexports.a");
+    println!("cargo:rerun-if-changed={folder}/libbrasspurse.a");
     println!("cargo:rustc-link-search=native={folder}");
-    println!("cargo:rustc-link-lib=static=exports");
+    println!("cargo:rustc-link-lib=static=brasspurse");
 }
 
 fn copy(from: &Path) {

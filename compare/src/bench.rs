@@ -4,7 +4,12 @@
 //! inlined, and free to be inlined into the loop, as the compiler sees fit.
 
 mod frames;
+mod goals;
 mod inputs;
+mod picture;
+mod processor;
+mod read;
+mod rows;
 mod sections;
 mod stack;
 mod table;
@@ -12,15 +17,44 @@ mod time;
 mod words;
 
 use std::io::{Error, Result};
-use table::Table;
+use table::{Row, Table};
 
 /// All rows whose name contains the word.
 pub fn run(word: &str) -> Result<()> {
+    measured(&|name| name.contains(word))?;
+    Ok(())
+}
+
+/// Measures the rows that matter, and draws them to a file.
+pub fn draw(file: &str) -> Result<()> {
+    let rows = measured(&rows::matters)?;
+    show(file, &processor::at_hand(), &rows)
+}
+
+/// Draws the rows that matter of a table that was printed before.
+pub fn redraw(file: &str, table: &str) -> Result<()> {
+    let processor = processor::elsewhere()?;
+    let mut rows = read::rows(table)?;
+    rows.retain(|row| rows::matters(&row.name));
+    rows.iter().for_each(|row| println!("{row}"));
+    show(file, &processor, &rows)
+}
+
+fn show(file: &str, processor: &str, rows: &[Row]) -> Result<()> {
+    goals::print(rows);
+    std::fs::write(file, picture::draw(processor, rows))
+        .map_err(|error| Error::new(error.kind(), format!("{file}: {error}")))
+}
+
+fn measured(wanted: &dyn Fn(&str) -> bool) -> Result<Vec<Row>> {
     refuse_emulation()?;
-    let table = Table::new(word);
+    // Read before the table begins, since what isn't there is told.
+    let all = sections::sections()?;
+    let table = Table::new(wanted);
     words::measure_all(&table);
     frames::measure_all(&table)?;
-    sections::measure_all(&table)
+    sections::measure_all(&table, &all)?;
+    Ok(table.rows())
 }
 
 /// `compare/run` says whether it runs the program under an emulator.

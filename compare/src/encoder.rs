@@ -118,7 +118,8 @@ pub struct Expected(Vec<Vec<Option<u32>>>);
 impl Expected {
     pub fn new() -> Self {
         let mut rows = vec![vec![None; LISTS]; 7];
-        // Every encoding of count 0 decodes to the zeros; document 01 gives them 0.
+        // Every encoding of count 0 decodes to the zeros; the encoder gives them 0
+        // (docs/FORMAT.md, 8.3).
         rows[0][0] = Some(0);
         for (count, encoding, list) in accepted() {
             let before = rows[count as usize][index(&list)].replace(encoding);

@@ -1,4 +1,4 @@
-//! The C interface of `libexports.a`: its answers, and safe calls.
+//! The C interface of `libbrasspurse.a`: its answers, and safe calls.
 //!
 //! A C `bool` is taken as a byte, so that one that is neither 0 nor 1 is seen as a difference.
 

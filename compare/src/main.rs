@@ -1,11 +1,12 @@
-//! Feeds the proved functions of `libexports.a` and the Rust crate the same inputs.
+//! Feeds the proved functions of `libbrasspurse.a` and the Rust crate the same inputs.
 //!
 //! `compare` counts equal and different answers, `sections` those on sections alone, `frames` those
 //! on frames alone, `unwind` those on lookups with a step alone, `program` the lines of the program
 //! that lists functions; `record FILE` and `record-sections FILE` write answers of the Rust for a
 //! replay, `record-frames FILE` those of a processor, `record-exports FOLDER` those of the model
 //! and the Rust on the other exports, `record-listings FOLDER` listings; `worst FILE` writes a
-//! section with a very long listing, `bench` measures both.
+//! section with a very long listing, `bench` measures both, `bench-svg FILE` draws what it measured,
+//! or what a file with `bench`'s table says.
 
 mod bench;
 mod encoder;
@@ -47,12 +48,14 @@ fn main() -> ExitCode {
         ["worst", file] => done(worst::write(file)),
         ["bench"] => done(bench::run("")),
         ["bench", word] => done(bench::run(word)),
+        ["bench-svg", file] => done(bench::draw(file)),
+        ["bench-svg", file, table] => done(bench::redraw(file, table)),
         _ => {
             eprintln!(
                 "usage: compare/run [compare | sections | frames | unwind | program COMMAND \
                  | record FILE | record-sections FILE | record-frames FILE \
                  | record-exports FOLDER | record-listings FOLDER | worst FILE \
-                 | bench [WORD]]"
+                 | bench [WORD] | bench-svg FILE [TABLE]]"
             );
             ExitCode::from(2)
         }

@@ -1,4 +1,5 @@
-//! A second reader of sections, written from document 01 alone: straight, and in whole numbers.
+//! A second reader of sections, written from the format's description alone (docs/FORMAT.md, 1 to
+//! 6): straight, and in whole numbers.
 //!
 //! It tells what the Rust doesn't: probes, cursors, well-formedness, and answers from any cursor
 //! and any two lists.
@@ -20,7 +21,7 @@ use bytes::Bytes;
 use page::Page;
 use search::search;
 
-/// One of document 01's numbers.
+/// A refusal's number (docs/FORMAT.md, 11).
 pub type Refusal = u8;
 
 const HEADER: u64 = 28;

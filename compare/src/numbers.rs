@@ -1,4 +1,4 @@
-//! Document 01's numbers to try: P1 to P12 by their names, and the others.
+//! The worked examples of docs/FORMAT.md, 13: P1 to P12 by their names, and the others.
 
 use crate::ffi::frame::{step_x86_64, Registers, Step, Window};
 use crate::ffi::section::{self as sections, LookupAnswer, FOUND, NONE, REFUSED};
@@ -8,13 +8,13 @@ use crate::sections::small::s;
 use crate::tally::{Report, Tally};
 
 pub fn compare(report: &mut Report) {
-    let mut proved = Tally::new("numbers to try, P1 to P12");
+    let mut proved = Tally::new("worked examples, P1 to P12");
     lookups(&mut proved);
     permutations(&mut proved);
     word(&mut proved);
     step(&mut proved);
     report.add(proved);
-    let mut others = Tally::new("numbers to try, others");
+    let mut others = Tally::new("worked examples, others");
     shorter_windows(&mut others);
     first_refused(&mut others);
     listing(&mut others);
@@ -88,7 +88,7 @@ const REGISTERS: Registers<6> = Registers {
     saved: [0xb, 0x12, 0x13, 0x14, 0x15, 0x7008],
 };
 
-/// Document 01's window: rbx, rbp and the return address at 0x7000 to 0x7018.
+/// The window of P12 (docs/FORMAT.md, 13.1): rbx, rbp and the return address at 0x7000 to 0x7018.
 fn window() -> Vec<u8> {
     let slots = [0xb0b_u64, 0x7777, 0x5005];
     slots.into_iter().flat_map(u64::to_le_bytes).collect()

@@ -1,5 +1,5 @@
-//! Feeds the program that lists functions odd and real inputs: what it prints must be the second
-//! reader's listing.
+//! Feeds the program `functions` odd and real inputs: what it prints must be the second reader's
+//! listing. Where it can't read or write, it must say so on standard error.
 
 use crate::ffi::section::{FOUND, NONE};
 use crate::model::{self, Section};
@@ -12,11 +12,52 @@ use std::process::{Command, Stdio};
 /// The program takes no more bytes.
 pub const LIMIT: usize = 65_536;
 
+/// What a shell is told to put in the place of standard input or output, and the one line that
+/// must stand on standard error.
+const FAILING: [(&str, &str); 4] = [
+    ("</", "standard input: Is a directory"),
+    ("<&-", "standard input: Bad file descriptor"),
+    (">/dev/full", "standard output: No space left on device"),
+    (">&-", "standard output: Bad file descriptor"),
+];
+
+/// What stood on standard output and on standard error.
+#[derive(PartialEq, Debug)]
+struct Printed {
+    output: String,
+    error: String,
+}
+
 pub fn compare(command: &[&str], report: &mut Report) -> Result<()> {
+    listings(command, report)?;
+    failures(command, report)
+}
+
+fn listings(command: &[&str], report: &mut Report) -> Result<()> {
     let mut tally = Tally::new("program, listings of odd and real input");
     for (name, input) in inputs()? {
-        let printed = run(command, &input)?;
-        tally.check(|| name.clone(), printed, listing(&input));
+        let expected = Printed {
+            output: listing(&input),
+            error: String::new(),
+        };
+        tally.check(|| name.clone(), run(command, &input)?, expected);
+    }
+    report.add(tally);
+    Ok(())
+}
+
+/// Section S, where a read or a write fails; nothing is on standard output then.
+fn failures(command: &[&str], report: &mut Report) -> Result<()> {
+    let mut tally = Tally::new("program, reads and writes that fail");
+    for (redirection, message) in FAILING {
+        let script = format!("exec \"$@\" {redirection}");
+        let shell = [&["sh", "-c", &script, "sh"], command].concat();
+        let expected = Printed {
+            output: String::new(),
+            error: format!("{message}\n"),
+        };
+        let name = || format!("functions {redirection}");
+        tally.check(name, run(&shell, &small::s())?, expected);
     }
     report.add(tally);
     Ok(())
@@ -65,7 +106,7 @@ fn changed(random: &mut Random, section: &[u8]) -> Vec<u8> {
     bytes
 }
 
-fn run(command: &[&str], input: &[u8]) -> Result<String> {
+fn run(command: &[&str], input: &[u8]) -> Result<Printed> {
     let [program, arguments @ ..] = command else {
         return Err(Error::other("no program is named"));
     };
@@ -73,6 +114,7 @@ fn run(command: &[&str], input: &[u8]) -> Result<String> {
         .args(arguments)
         .stdin(Stdio::piped())
         .stdout(Stdio::piped())
+        .stderr(Stdio::piped())
         .spawn()?;
     let mut stdin = child.stdin.take();
     let bytes = input.to_vec();
@@ -80,14 +122,18 @@ fn run(command: &[&str], input: &[u8]) -> Result<String> {
     let feed = std::thread::spawn(move || stdin.as_mut().map(|stdin| stdin.write_all(&bytes)));
     let output = child.wait_with_output()?;
     let _ = feed.join();
-    let printed = String::from_utf8_lossy(&output.stdout).into_owned();
-    Ok(match output.status.code() {
-        Some(0) => printed,
-        code => format!("{printed}exit status {code:?}"),
+    let text = |bytes| String::from_utf8_lossy(bytes).into_owned();
+    let mut error = text(&output.stderr);
+    if !output.status.success() {
+        error += &output.status.to_string();
+    }
+    Ok(Printed {
+        output: text(&output.stdout),
+        error,
     })
 }
 
-/// Document 01's lines, by the second reader.
+/// The listing of docs/FORMAT.md, 12, by the second reader.
 pub fn listing(input: &[u8]) -> String {
     if input.len() > LIMIT {
         return "refused 30\nend 0\n".to_string();

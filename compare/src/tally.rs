@@ -61,6 +61,7 @@ impl Tally {
 pub struct Report {
     compared: u64,
     different: u64,
+    as_listed: u64,
 }
 
 impl Report {
@@ -70,14 +71,25 @@ impl Report {
         self.different += group.different;
     }
 
-    /// A difference that docs/DIFFERENCES.md lists: shown by its first input, and not counted.
+    /// A difference that docs/DIFFERENCES.md lists: shown by its first input, and counted apart.
     pub fn add_listed(&mut self, mut group: Tally) {
         group.first.truncate(1);
         group.print("differ as listed");
+        self.as_listed += group.different;
     }
 
+    /// The last lines of a run.
     pub fn end(self) -> ExitCode {
-        println!("{} compared, {} different", self.compared, self.different);
+        if self.as_listed > 0 {
+            println!(
+                "{} more differ as docs/DIFFERENCES.md lists them",
+                self.as_listed
+            );
+        }
+        println!(
+            "{} answers compared, {} different",
+            self.compared, self.different
+        );
         if self.different > 0 {
             ExitCode::FAILURE
         } else {

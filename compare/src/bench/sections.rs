@@ -9,19 +9,19 @@ mod unwind;
 use super::table::Table;
 use crate::oracle::release_0_5_0::macho::UnwindInfo;
 use crate::sections::corpus;
+pub use made::sections;
 use made::Measured;
 use std::io::{Error, Result};
 
-pub fn measure_all(table: &Table) -> Result<()> {
-    let all = made::sections()?;
-    for measured in &all {
+pub fn measure_all(table: &Table, all: &[Measured]) -> Result<()> {
+    for measured in all {
         lookups::agree(measured)?;
         lookups::measure(table, measured);
         batches::measure(table, measured);
         iterations::agree(measured)?;
         iterations::measure(table, measured);
     }
-    unwind::measure_all(table, &all)?;
+    unwind::measure_all(table, all)?;
     println!();
     all.iter().for_each(Measured::print);
     if corpus::folder().is_none() {

@@ -1,6 +1,8 @@
-//! The table of times, in the form that docs/BENCHMARKS.md has.
+//! The table of times, in Markdown.
 
 use super::time::{called, each};
+use std::cell::RefCell;
+use std::fmt::{Display, Formatter, Result};
 
 /// Each side is measured this often, in turns, and its best time counts.
 const ROUNDS: usize = 25;
@@ -24,9 +26,24 @@ const HEAD: &str = "\
 | | ours | 0.5.0 called | 0.5.0 free |
 |---|---|---|---|";
 
-/// The rows whose name contains a word.
+/// Nanoseconds per answer.
+pub struct Row {
+    pub name: String,
+    pub ours: f64,
+    pub called: Beside,
+    pub free: Beside,
+}
+
+/// The Rust's time, and that time / ours.
+pub struct Beside {
+    pub time: f64,
+    pub ratio: f64,
+}
+
+/// The rows that somebody wants, printed as they are measured.
 pub struct Table<'a> {
-    word: &'a str,
+    wanted: &'a dyn Fn(&str) -> bool,
+    rows: RefCell<Vec<Row>>,
 }
 
 /// Ours, the Rust called, the Rust free: the time of a part of the inputs.
@@ -34,13 +51,20 @@ pub type Sides<'a> = [&'a dyn Fn(usize) -> f64; 3];
 
 impl<'a> Table<'a> {
     /// With its head printed.
-    pub fn new(word: &'a str) -> Self {
+    pub fn new(wanted: &'a dyn Fn(&str) -> bool) -> Self {
         println!(
             "Nanoseconds per answer, best of {ROUNDS} rounds, the sides in turns; in brackets the \
              Rust's time / ours."
         );
         println!("{HEAD}");
-        Table { word }
+        Table {
+            wanted,
+            rows: RefCell::default(),
+        }
+    }
+
+    pub fn rows(self) -> Vec<Row> {
+        self.rows.into_inner()
     }
 
     /// A row on which each side takes one input to one answer. `rust` makes its side ready.
@@ -69,7 +93,7 @@ impl<'a> Table<'a> {
     /// A row by its parts. Each side takes all of them before the next does, so that none finds
     /// in the cache what another has just read.
     pub fn measure(&self, name: &str, parts: usize, sides: Sides) {
-        if !name.contains(self.word) {
+        if !(self.wanted)(name) {
             return;
         }
         let mut best = vec![[f64::INFINITY; 3]; parts];
@@ -81,11 +105,35 @@ impl<'a> Table<'a> {
             }
         }
         let mean = |side: usize| best.iter().map(|best| best[side]).sum::<f64>() / parts as f64;
-        print_row(name, [mean(0), mean(1), mean(2)]);
+        let ours = mean(0);
+        let row = Row {
+            name: name.to_owned(),
+            ours,
+            called: Beside::new(mean(1), ours),
+            free: Beside::new(mean(2), ours),
+        };
+        println!("{row}");
+        self.rows.borrow_mut().push(row);
     }
 }
 
-fn print_row(name: &str, [ours, called, free]: [f64; 3]) {
-    let cell = |time: f64| format!("{time:.1} ({:.2})", time / ours);
-    println!("| {name} | {ours:.1} | {} | {} |", cell(called), cell(free));
+impl Beside {
+    pub fn new(time: f64, ours: f64) -> Self {
+        let ratio = time / ours;
+        Beside { time, ratio }
+    }
+}
+
+impl Display for Row {
+    fn fmt(&self, f: &mut Formatter) -> Result {
+        let Row { name, ours, .. } = self;
+        let (called, free) = (&self.called, &self.free);
+        write!(f, "| {name} | {ours:.1} | {called} | {free} |")
+    }
+}
+
+impl Display for Beside {
+    fn fmt(&self, f: &mut Formatter) -> Result {
+        write!(f, "{:.1} ({:.2})", self.time, self.ratio)
+    }
 }

@@ -13,7 +13,7 @@ use std::io::Result;
 
 pub fn compare(report: &mut Report) -> Result<()> {
     let Some(frames) = read()? else {
-        println!("frames, real: skipped, since BRASSPURSE_CORPUS names no folder with them");
+        corpus::skipped("frames, real");
         return Ok(());
     };
     let mut groups = Groups::new("frames, real");

@@ -78,7 +78,7 @@ fn fields(constants: &Constants) -> Tally {
     tally
 }
 
-/// The header has the d pairs at bits 8 to 11, the crate and document 01 at bits 5 to 8.
+/// The header has the d pairs at bits 8 to 11, the crate and ours at bits 5 to 8.
 /// Words rise, so the first that differs is the smallest.
 fn d_pairs(constants: &Constants) -> Tally {
     let mut tally = Tally::new("header, arm64 d pairs");

@@ -1,4 +1,4 @@
-//! Frames and their steps, from document 01's lines alone and in whole numbers.
+//! Frames and their steps, from docs/FORMAT.md, 9 and 10, alone and in whole numbers.
 
 pub mod arm64;
 pub mod arrangements;

@@ -1,4 +1,4 @@
-//! The search of document 01.
+//! The search (docs/FORMAT.md, 3).
 
 /// The last entry that the search passes by, if it passes one, and the entries probed.
 pub fn search(entries: u32, sought: u32, key: impl Fn(u32) -> u32) -> (Option<u32>, u16) {

@@ -1,4 +1,4 @@
-//! The combined call, from document 01: a lookup, then a step by the word found.
+//! The combined call (docs/FORMAT.md, 10.4): a lookup, then a step by the word found.
 
 use super::frame::{step, Frame, Refused};
 use crate::ffi::frame::{Registers, Step, Window};

@@ -1,4 +1,4 @@
-//! Document 01's "well formed", line by line.
+//! "Well formed" (docs/FORMAT.md, 6), line by line.
 
 use super::page::Page;
 use super::search::rise;

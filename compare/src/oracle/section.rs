@@ -10,7 +10,7 @@ use std::sync::Once;
 /// One build of the crate.
 pub struct Build {
     pub name: &'static str,
-    /// Whether it panics where document 01 says 13; the others wrap there.
+    /// Whether it panics where ours refuses with 13; the others wrap there.
     pub checks_sums: bool,
     pub parse: fn(&[u8]) -> ParseAnswer,
     pub open: for<'a> fn(&'a [u8]) -> Option<Box<dyn View<'a> + 'a>>,
@@ -30,7 +30,7 @@ pub trait View<'a> {
 }
 
 /// A `FunctionIter`. It takes a function off its list before it computes anything, so after a
-/// panic it stands where document 01 has the cursor after 13 and 14: one index on.
+/// panic it stands where our cursor stands after 13 and 14 (docs/FORMAT.md, 5.3): one index on.
 pub trait Functions {
     fn next(&mut self) -> Told;
 }
@@ -43,11 +43,11 @@ pub struct Told {
     pub start: u32,
     pub end: u32,
     pub opcode: u32,
-    /// There was no answer; `refusal` is document 01's number for the cause.
+    /// There was no answer; `refusal` is our number for the cause.
     pub panicked: bool,
 }
 
-/// `refusal` of a panic that document 01 has no number for.
+/// `refusal` of a panic that no refusal has a number for.
 const OTHER_PANIC: u8 = 255;
 
 impl Told {

@@ -62,7 +62,9 @@ pub fn write(folder: &str) -> Result<()> {
 impl Files {
     fn input(&self) -> Vec<u8> {
         let first = 4 + self.sections.len() as u32;
-        [&u32s(&[first]), &self.sections, &self.records].map(Vec::as_slice).concat()
+        [&u32s(&[first]), &self.sections, &self.records]
+            .map(Vec::as_slice)
+            .concat()
     }
 
     /// The section that the records from here on are about.
@@ -83,7 +85,12 @@ impl Files {
         numbers: impl IntoIterator<Item = u64>,
     ) {
         let section = [self.place, self.section.len() as u32];
-        self.records.extend(u32s(&[call.tag, section[0], section[1], asked.len() as u32]));
+        self.records.extend(u32s(&[
+            call.tag,
+            section[0],
+            section[1],
+            asked.len() as u32,
+        ]));
         let name = format!("{:NAME$}", call.name);
         self.records.extend_from_slice(name.as_bytes());
         self.records.extend_from_slice(asked);

@@ -9,7 +9,7 @@ const LARGE_PERMUTATIONS: usize = 64;
 const X86_64_WORDS: usize = 4000;
 const ARM64_WORDS: usize = 2000;
 
-/// The worked words of document 01.
+/// The words of section S (docs/FORMAT.md, 2.8).
 const WORKED: [u32; 2] = [0x0203_0800, 0x0101_0001];
 
 /// The first refused encoding of each count; counts 0 and 7 have none, or refuse all.

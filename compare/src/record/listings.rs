@@ -89,7 +89,11 @@ fn at_the_end(length: usize) -> Vec<u8> {
 fn page(kind: u32, first: u32, functions: u32) -> Page {
     let function = |i| Function {
         start: first + 16 * i,
-        opcode: if kind == COMPRESSED { i % 3 } else { 0x0400_0001 + i },
+        opcode: if kind == COMPRESSED {
+            i % 3
+        } else {
+            0x0400_0001 + i
+        },
     };
     Page {
         kind,
@@ -110,7 +114,12 @@ fn section(pages: Vec<Page>, end: u32) -> Vec<u8> {
 
 /// Where page `p`'s entry says that it lies.
 fn offset_of(bytes: &[u8], p: usize) -> usize {
-    let word = |at: usize| bytes[at..at + 4].iter().rev().fold(0, |n, b| 256 * n + usize::from(*b));
+    let word = |at: usize| {
+        bytes[at..at + 4]
+            .iter()
+            .rev()
+            .fold(0, |n, b| 256 * n + usize::from(*b))
+    };
     word(word(20) + 12 * p + 4)
 }
 

@@ -4,9 +4,11 @@ use super::case::Case;
 use super::check::Checks;
 use crate::ffi::section::{self as ours, LookupAnswer, FOUND, NONE, REFUSED};
 use crate::tally::{Report, Tally};
-use std::io::{Error, ErrorKind, Result};
+use std::fs::OpenOptions;
+use std::io::{Error, ErrorKind, Result, Write};
 use std::path::{Path, PathBuf};
 use std::process::Command;
+use std::sync::Once;
 
 /// A real section's name and bytes.
 pub struct Real {
@@ -21,9 +23,25 @@ pub fn folder() -> Option<PathBuf> {
     Some(corpus.join("sections")).filter(|sections| sections.is_dir())
 }
 
-/// All real sections by name; none where there is no folder.
+/// Says that a group has no input, since the corpus isn't there, and leaves the line in a file for
+/// `compare/run` to count.
+pub fn skipped(group: &str) {
+    let line = format!("skipped: {group}, no corpus");
+    println!("{line}");
+    let Some(path) = std::env::var_os("BRASSPURSE_SKIPPED") else {
+        return;
+    };
+    let file = OpenOptions::new().create(true).append(true).open(path);
+    if let Err(e) = file.and_then(|mut file| writeln!(file, "{line}")) {
+        eprintln!("compare: BRASSPURSE_SKIPPED: {e}");
+    }
+}
+
+/// All real sections by name; none where there is no folder, which is said once.
 pub fn sections() -> Result<Vec<Real>> {
+    static SAID: Once = Once::new();
     let Some(folder) = folder() else {
+        SAID.call_once(|| skipped("inputs made of real sections"));
         return Ok(Vec::new());
     };
     files(&folder, "bin")?.into_iter().map(read).collect()
@@ -60,7 +78,7 @@ fn read(path: PathBuf) -> Result<Real> {
 
 pub fn compare(checks: &mut Checks, report: &mut Report) -> Result<()> {
     if folder().is_none() {
-        println!("sections, real: skipped, since BRASSPURSE_CORPUS names no folder with them");
+        skipped("sections, real");
         return Ok(());
     }
     let mut listings = Tally::new("sections, real, lines of listings");
@@ -85,7 +103,7 @@ pub fn compare(checks: &mut Checks, report: &mut Report) -> Result<()> {
     Ok(())
 }
 
-/// Each line that the program of document 01 would print, without its limit on bytes.
+/// Each line that the program `functions` would print, without its limit on bytes.
 fn listing(tally: &mut Tally, real: &Real) -> Result<()> {
     let text = listed(&real.path)?;
     let mut lines = text.lines();
@@ -100,7 +118,7 @@ fn listing(tally: &mut Tally, real: &Real) -> Result<()> {
     Ok(())
 }
 
-/// The iteration in the form of document 01's program.
+/// The iteration in the form of the program `functions` (docs/FORMAT.md, 12).
 pub fn iterated(section: &[u8]) -> Vec<String> {
     let (mut lines, mut cursor, mut functions) = (Vec::new(), (0, 0), 0);
     loop {

@@ -1,4 +1,5 @@
-//! Answers outside the domain of the comparison, counted by their reason.
+//! Answers outside the domain of the comparison, counted by their reason. On the domain no function
+//! is refused with 13 or 14, and the keys that a lookup searches rise strictly.
 
 use super::case::{hex, Case};
 use crate::oracle::section::{Told, BUILDS};
@@ -83,7 +84,9 @@ impl Outside {
     }
 
     pub fn print(&self) {
-        println!("outside the domain, not counted as differences:");
+        println!(
+            "outside the domain, where the Rust wraps, panics or searches otherwise; not counted:"
+        );
         for ((reason, what, build), seen) in &self.0 {
             println!(
                 "{:<44} {:>10} asked    {:>9} differ",

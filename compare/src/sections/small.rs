@@ -1,4 +1,4 @@
-//! Document 01's section S and all that lies a byte beside it.
+//! Section S (docs/FORMAT.md, 2.8) and all that lies a byte beside it.
 
 /// S, 80 bytes.
 pub fn s() -> Vec<u8> {

@@ -1,5 +1,5 @@
-//! Named cases that wrong programs are known to fall into, with the answers that document 01's
-//! lines give.
+//! Named cases that wrong programs are known to fall into, with the answers that docs/FORMAT.md
+//! gives (13.3 has some of them).
 
 mod lists;
 mod pages;

@@ -11,7 +11,7 @@ use std::io::Result;
 
 pub fn compare(report: &mut Report) -> Result<()> {
     let Some(frames) = read()? else {
-        println!("unwind, real: skipped, since BRASSPURSE_CORPUS names no folder with frames");
+        corpus::skipped("unwind, real");
         return Ok(());
     };
     let mut all = All {

@@ -15,7 +15,7 @@ use std::io::Result;
 
 pub fn compare(report: &mut Report) -> Result<()> {
     let Some(walks) = read()? else {
-        println!("unwind, stacks: skipped, since BRASSPURSE_CORPUS names no folder with them");
+        corpus::skipped("unwind, stacks");
         return Ok(());
     };
     let mut stacks = Stacks {

@@ -18,7 +18,7 @@ pub fn all() -> Vec<Named<6>> {
     [frames(), edges(), words()].into_iter().flatten().collect()
 }
 
-/// Document 01's worked window: rbx, rbp and the return address at 0x7000 to 0x7018.
+/// The window of P12 (docs/FORMAT.md, 13.1): rbx, rbp and the return address at 0x7000 to 0x7018.
 fn p12() -> Case<6> {
     case(
         0x0101_0001,

@@ -12,9 +12,9 @@ pub struct Groups {
     model: Tally,
     indirect: Tally,
     refused: Tally,
-    /// Words with d pairs, which stand at other bits than document 01 says.
+    /// Words with d pairs, which real code has at other bits (docs/FORMAT.md, 0.4).
     other_pairs: Tally,
-    /// arm64 frameless words with pair bits, which document 01 ignores.
+    /// arm64 frameless words with pair bits, which a rule ignores (docs/FORMAT.md, 0.4).
     ignored_pairs: Tally,
     differing: Tally,
 }

@@ -1,4 +1,4 @@
-//! What a function does to the stack, as document 01 tells it: its prologue, then any body.
+//! What a function does to the stack, as docs/FORMAT.md, 9, tells it: its prologue, then any body.
 //!
 //! Words are put together here from what the prologue does, and none is taken apart.
 

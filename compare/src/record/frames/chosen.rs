@@ -37,7 +37,7 @@ pub fn refused<const N: usize>(machine: &Machine<N>) -> Vec<Recorded<N>> {
     by_refusal.into_values().flatten().collect()
 }
 
-/// At most so many real frames of each kind, spread over the words that document 01 covers.
+/// At most so many real frames of each kind, spread over the words that docs/FORMAT.md, 9, covers.
 pub fn real<const N: usize>(frames: &[Executed<N>], kinds: &[(u32, usize)]) -> Vec<Recorded<N>> {
     let all = frames.iter().filter_map(recorded).filter(is_short);
     let by_word: BTreeMap<u32, Recorded<N>> = all.map(|one| (one.0.word, one)).collect();

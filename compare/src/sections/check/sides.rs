@@ -41,7 +41,7 @@ impl Sides {
             let group = (reason, self.name, BUILDS[build].name);
             return outside.count(group, (case, question), (ours, theirs));
         }
-        // The build that checks sums panics exactly where document 01 has 13 and 14.
+        // The build that checks sums panics exactly where ours refuses with 13 and 14.
         let theirs = match refusal {
             13 | 14 => theirs.with_panic_as_refusal(),
             _ => theirs,

@@ -21,7 +21,7 @@ pub struct Walk<const N: usize> {
     end: (u32, u64),
     /// The frame whose word is indirect, if one is.
     indirect: Option<u32>,
-    /// A word has d pairs, which stand at other bits than document 01 says.
+    /// A word has d pairs, which real code has at other bits (docs/FORMAT.md, 0.4).
     has_d_pairs: bool,
     pub reached: Registers<N>,
 }
