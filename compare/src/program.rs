@@ -6,8 +6,11 @@ use crate::model::{self, Section};
 use crate::random::Random;
 use crate::sections::{corpus, damage, small};
 use crate::tally::{Report, Tally};
-use std::io::{Error, Result, Write};
-use std::process::{Command, Stdio};
+use crate::worst;
+use std::io::{BufRead, BufReader, Error, Read, Result, Write};
+use std::os::fd::OwnedFd;
+use std::os::unix::net::UnixStream;
+use std::process::{Child, Command, Stdio};
 
 /// The program takes no more bytes.
 pub const LIMIT: usize = 65_536;
@@ -59,8 +62,43 @@ fn failures(command: &[&str], report: &mut Report) -> Result<()> {
         let name = || format!("functions {redirection}");
         tally.check(name, run(&shell, &small::s())?, expected);
     }
+    let (printed, expected) = broken_off(command)?;
+    tally.check(
+        || "a write that fails for a while".into(),
+        printed,
+        expected,
+    );
     report.add(tally);
     Ok(())
+}
+
+/// The longest listing, to an output that takes no more until the message is there. What stands on
+/// it must be the listing's front, with nothing after the write that failed.
+fn broken_off(command: &[&str]) -> Result<(Printed, Printed)> {
+    let (reader, output) = UnixStream::pair()?;
+    output.set_nonblocking(true)?;
+    let input = worst::section();
+    let mut child = start(command, &input, OwnedFd::from(output).into())?;
+    let mut said = BufReader::new(child.stderr.take().expect("it is piped"));
+    let (mut front, mut error) = (Vec::new(), String::new());
+    said.read_line(&mut error)?;
+    // More than an output holds; a program that goes on writing is left there.
+    reader.take(1 << 22).read_to_end(&mut front)?;
+    said.read_to_string(&mut error)?;
+    child.wait()?;
+    let expected = Printed {
+        output: up_to(front.len(), &input),
+        error: "standard output: Resource temporarily unavailable\n".into(),
+    };
+    let output = String::from_utf8_lossy(&front).into_owned();
+    Ok((Printed { output, error }, expected))
+}
+
+/// So many bytes of the listing, and at least one, so that nothing is not enough.
+fn up_to(length: usize, input: &[u8]) -> String {
+    let mut lines = listing_of(input, length.max(1));
+    lines.truncate(length.max(1));
+    lines
 }
 
 fn inputs() -> Result<Vec<(String, Vec<u8>)>> {
@@ -107,21 +145,7 @@ fn changed(random: &mut Random, section: &[u8]) -> Vec<u8> {
 }
 
 fn run(command: &[&str], input: &[u8]) -> Result<Printed> {
-    let [program, arguments @ ..] = command else {
-        return Err(Error::other("no program is named"));
-    };
-    let mut child = Command::new(program)
-        .args(arguments)
-        .stdin(Stdio::piped())
-        .stdout(Stdio::piped())
-        .stderr(Stdio::piped())
-        .spawn()?;
-    let mut stdin = child.stdin.take();
-    let bytes = input.to_vec();
-    // A program that reads no more than it takes closes its input early.
-    let feed = std::thread::spawn(move || stdin.as_mut().map(|stdin| stdin.write_all(&bytes)));
-    let output = child.wait_with_output()?;
-    let _ = feed.join();
+    let output = start(command, input, Stdio::piped())?.wait_with_output()?;
     let text = |bytes| String::from_utf8_lossy(bytes).into_owned();
     let mut error = text(&output.stderr);
     if !output.status.success() {
@@ -133,8 +157,31 @@ fn run(command: &[&str], input: &[u8]) -> Result<Printed> {
     })
 }
 
+/// Starts the program, and feeds it meanwhile.
+fn start(command: &[&str], input: &[u8], output: Stdio) -> Result<Child> {
+    let [program, arguments @ ..] = command else {
+        return Err(Error::other("no program is named"));
+    };
+    let mut child = Command::new(program)
+        .args(arguments)
+        .stdin(Stdio::piped())
+        .stdout(output)
+        .stderr(Stdio::piped())
+        .spawn()?;
+    let mut stdin = child.stdin.take();
+    let bytes = input.to_vec();
+    // A program that reads no more than it takes closes its input early.
+    std::thread::spawn(move || stdin.as_mut().map(|stdin| stdin.write_all(&bytes)));
+    Ok(child)
+}
+
 /// The listing of docs/FORMAT.md, 12, by the second reader.
 pub fn listing(input: &[u8]) -> String {
+    listing_of(input, usize::MAX)
+}
+
+/// Its first lines, of so many bytes or more where there are so many.
+fn listing_of(input: &[u8], enough: usize) -> String {
     if input.len() > LIMIT {
         return "refused 30\nend 0\n".to_string();
     }
@@ -143,7 +190,7 @@ pub fn listing(input: &[u8]) -> String {
         Err(refusal) => return format!("refused {refusal}\nend 0\n"),
     };
     let (mut lines, mut cursor, mut functions) = (String::new(), (0, 0), 0);
-    loop {
+    while lines.len() < enough {
         let next = model::next(&section, cursor);
         cursor = (next.page, next.index);
         if next.outcome == NONE.into() {
@@ -157,4 +204,5 @@ pub fn listing(input: &[u8]) -> String {
             lines += &format!("refused {}\n", next.refusal);
         }
     }
+    lines
 }

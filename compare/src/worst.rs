@@ -29,7 +29,7 @@ pub fn write(file: &str) -> Result<()> {
     Ok(())
 }
 
-fn section() -> Vec<u8> {
+pub fn section() -> Vec<u8> {
     // The header, with global opcodes from 0 on and no personalities.
     let header = [1, 0, 256, 0, 0, ENTRIES, ENTRY_COUNT];
     let functions = u32::from(FUNCTION_COUNT) << 16 | u32::from(FUNCTIONS_OFFSET);
