@@ -1,5 +1,4 @@
 pub mod Cases
 pub mod Places
 pub mod One
-pub mod Straight
-pub mod Reading
+pub mod Placed

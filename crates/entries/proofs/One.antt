@@ -1,14 +1,12 @@
 -- Two answers that conform to a contract are one.
 -- Assumes nothing.
-use Prim.Native.Nat.{ℕ}
 use mathlib.Core.Path.{_≡_, refl, ap}
 use mathlib.Mathlib.Logic.Function.Defs.{LeftInverse}
 use Rattle.raw.specs.Checked.{Checked}
 use Rattle.raw.proofs.One.{answerFor, error-back, one-told}
 use Rattle.entries.specs.declared.Function.{Function}
 use Rattle.entries.specs.declared.Answer.{Answer}
-use Rattle.entries.specs.declared.Resolved.{Resolved}
-use Rattle.entries.specs.Entries.{functionTold, opcodeTold}
+use Rattle.entries.specs.Entries.{functionTold}
 
 function-back : LeftInverse (answerFor Answer.Function Answer.Refused) functionTold
 function-back (Answer.Function f) = refl
@@ -16,10 +14,3 @@ function-back (Answer.Refused e) = ap Answer.Refused (error-back e)
 
 pub one-function : (t : Checked Function) (x y : Answer) → functionTold x ≡ t → functionTold y ≡ t → x ≡ y
 one-function = one-told Answer.Function Answer.Refused functionTold function-back
-
-opcode-back : LeftInverse (answerFor Resolved.Opcode Resolved.Refused) opcodeTold
-opcode-back (Resolved.Opcode x) = refl
-opcode-back (Resolved.Refused e) = ap Resolved.Refused (error-back e)
-
-pub one-opcode : (t : Checked ℕ) (x y : Resolved) → opcodeTold x ≡ t → opcodeTold y ≡ t → x ≡ y
-one-opcode = one-told Resolved.Opcode Resolved.Refused opcodeTold opcode-back

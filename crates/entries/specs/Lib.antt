@@ -1,3 +1,3 @@
 pub mod Entries
 pub mod Section
-pub mod Straight
+pub mod Placed

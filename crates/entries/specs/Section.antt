@@ -8,6 +8,7 @@ use Rattle.raw.specs.declared.Page.{Page}
 use Rattle.raw.specs.Checked.{Checked}
 use Rattle.raw.specs.Raw.{globalsOf, pagesOf, firstIn, offsetIn, openOf}
 use Rattle.entries.specs.declared.Function.{Function}
+use Rattle.entries.specs.declared.Place.{Place}
 use Rattle.entries.specs.Entries.{functionOf}
 
 -- first address of page p, and the part of the section that is the page
@@ -26,3 +27,7 @@ openedAt s l p = openOf s (offsetOf s l p) (firstOf s l p)
 
 unfoldable pub functionAt : List ℕ → Lists → ℕ → Page → ℕ → Checked Function
 functionAt s l p pg i = functionOf (pageAt s l p) pg (globalsOf s l) (firstOf s l (suc p)) i
+
+-- the place of page p, read as pg
+abbrev pub placeAt : List ℕ → Lists → ℕ → Page → Place
+placeAt s l p pg = record { offset = offsetOf s l p; next = firstOf s l (suc p); page = pg }

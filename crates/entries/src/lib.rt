@@ -1,17 +1,21 @@
-// The functions of a page.
+// The functions of a page: one reader for all who ask for a function.
 ghost use mathlib.Core.Path.{_≡_};
-ghost use mathlib.Core.Bool.{not, _||_};
-ghost use Rattle.reader.specs.Reader.{sliceTold, partAt};
-ghost use Rattle.raw.specs.Raw.{layout, localsGranted, pageTold};
+ghost use mathlib.Core.Bool.{true, cond};
+ghost use mathlib.Core.List.{[]};
+ghost use Prim.Native.Nat.{_+_, _*_, _≤_, _<_};
+ghost use lib.ListN.{length};
+ghost use Rattle.reader.specs.Reader.{wordAt, sliceTold, partIn};
+ghost use Rattle.search.specs.Search.{sizeOf};
+ghost use Rattle.raw.specs.declared.Error.{Error};
+ghost use Rattle.raw.specs.Raw.{layout, pageTold};
 ghost use Rattle.entries.specs.Section.{openedAt};
-ghost use Rattle.entries.specs.Straight.{sourceFrom};
-ghost use Rattle.entries.specs.Entries.{functionsOf, localsOf, fourIn, opcodePartIn, isGlobal, startIn, endIn, resolveOf, opcodeIn, functionIn, functionOf, functionTold, opcodeTold};
+ghost use Rattle.entries.specs.Entries.{opcodePartIn, resolveOf, functionTold, opcodeTold};
+ghost use Rattle.entries.specs.Placed.{firstAt, sizeAt, listThere, listAt, listIn, localsThere, localsAt, noEntry, readOf, entryIn, opcodeFor, spanning};
 use raw::Error;
 use raw::Kind;
 use raw::Lists;
 use raw::Opened;
 use raw::Page;
-use reader::Read32;
 use search::Layout;
 
 // The end stands last for speed: beside the start it would be loaded with it at once, where each was stored by itself, and wait for both.
@@ -26,49 +30,22 @@ pub enum Answer {
     Refused(Error),
 }
 
-pub enum Resolved {
+// A page's place: its offset in the section, the next page's first address, and what it was read as. Any numbers.
+pub struct Place {
+    pub offset: u32,
+    pub next: u32,
+    pub page: Page,
+}
+
+enum Resolved {
     Opcode(u32),
     Refused(Error),
 }
 
-// Where the section has what a page's functions are read from, computed once for all of them. What is read so is read with no test of its
-// own: the law `straight` says that it is the function.
-pub struct Source {
-    pub kind: Kind,
-    pub base: u32,
-    pub next: u32,
-    pub first: usize,
-    pub entries: u32,
-    pub globals: usize,
-    pub globals_end: usize,
-    pub locals_at: usize,
-    pub opcodes: usize,
-}
-
 // An entry's first word, and where its function starts.
-pub struct Entry {
+struct Entry {
     pub word: u32,
     pub start: u64,
-}
-
-// The source of the page at the offset, before the address where the next one starts.
-pub fn source_of(lists: Lists, offset: u32, next: u32, pg: Page) -> Source
-    ensures { λ r. ⌜ r ≡ sourceFrom lists offset next pg ⌝ }
-{
-    let kind = pg.kind;
-    let page = offset as usize;
-    let globals = lists.global_opcodes_len as usize;
-    Source {
-        kind,
-        base: pg.base,
-        next,
-        first: page + pg.functions_offset as usize,
-        entries: pg.functions_len,
-        globals,
-        globals_end: lists.global_opcodes_offset as usize + 4 * globals,
-        locals_at: page + pg.local_opcodes_offset as usize,
-        opcodes: globals + pg.local_opcodes_len as usize,
-    }
 }
 
 pub fn layout_of(kind: Kind) -> Layout
@@ -80,44 +57,82 @@ pub fn layout_of(kind: Kind) -> Layout
     }
 }
 
-// The bytes of the page's functions.
-pub fn functions(page: &[u8], pg: Page) -> &[u8]
-    ensures { λ r. ⌜ sliceTold r ≡ partAt (sliceTold (page .entry)) (pg .«functions_offset») (functionsOf (now (page .entry)) pg) ⌝ }
+// Bytes that are there, with no test of it.
+fn word(s: &[u8], at: usize) -> u32
+    requires { ⌜ at + 4 ≤ length (now s) ⌝ }
+    ensures { λ r. ⌜ r ≡ wordAt 4 (now (s .entry)) at ⌝ }
 {
+    reader::from_le_bytes(s[at], s[at + 1], s[at + 2], s[at + 3])
+}
+
+fn inside(s: &[u8], at: usize, n: usize) -> &[u8]
+    requires { ⌜ at + n ≤ length (now s) ⌝ }
+    ensures { λ r. ⌜ sliceTold r ≡ partIn (sliceTold (s .entry)) at n ⌝ }
+{
+    let end = at + n;
+    &s[at..end]
+}
+
+// Where the page's list of functions starts, and its bytes. No number here is so large that a sum wraps.
+fn first_of(q: Place) -> usize
+    ensures { λ r. ⌜ (r ≡ firstAt q) × (r < 8589934592) ⌝ }
+{
+    q.offset as usize + q.page.functions_offset as usize
+}
+
+fn size_of(q: Place) -> usize
+    ensures { λ r. ⌜ (r ≡ sizeAt q) × (r < 68719476736) ⌝ }
+{
+    let pg = q.page;
     let kind = pg.kind;
-    let at = pg.functions_offset;
-    let n = pg.functions_len;
-    reader::part(
-        page,
-        at as usize,
-        search::entry_size(layout_of(kind)) * n as usize,
-    )
+    let n = pg.functions_len as usize;
+    search::entry_size(layout_of(kind)) * n
 }
 
-// The bytes of the page's local opcodes.
-pub fn local_opcodes(page: &[u8], pg: Page) -> &[u8]
-    ensures { λ r. ⌜ sliceTold r ≡ partAt (sliceTold (page .entry)) (pg .«local_opcodes_offset») (localsOf (now (page .entry)) pg) ⌝ }
+fn has_list(s: &[u8], q: Place) -> bool
+    ensures { λ r. ⌜ r ≡ listThere (now (s .entry)) q ⌝ }
 {
-    let at = pg.local_opcodes_offset;
-    let n = pg.local_opcodes_len;
-    reader::part(page, at as usize, 4 * n as usize)
+    first_of(q) + size_of(q) <= s.len()
 }
 
-// The four bytes at the offset, or none.
-fn four(s: &[u8], at: usize) -> &[u8]
-    ensures { λ r. ⌜ sliceTold r ≡ fourIn (sliceTold (s .entry)) at ⌝ }
+fn list_at(s: &[u8], q: Place) -> &[u8]
+    requires { ⌜ listThere (now s) q ≡ true ⌝ }
+    ensures { λ r. ⌜ sliceTold r ≡ partIn (sliceTold (s .entry)) (firstAt q) (sizeAt q) ⌝ }
 {
-    if reader::is_granted(s, at, 4) {
-        reader::part(s, at, 4)
+    inside(s, first_of(q), size_of(q))
+}
+
+// The bytes of the page's functions; none where they don't lie in the section.
+pub fn list_of(s: &[u8], q: Place) -> &[u8]
+    ensures { λ r. ⌜ sliceTold r ≡ listIn (sliceTold (s .entry)) q ⌝ }
+{
+    if has_list(s, q) {
+        list_at(s, q)
     } else {
         &s[..0]
     }
 }
 
-pub fn is_global(globals: &[u8], index: u32) -> bool
-    ensures { λ r. ⌜ r ≡ isGlobal (now (globals .entry)) index ⌝ }
+// Whether the page's local opcodes lie in the section.
+pub fn has_locals(s: &[u8], q: Place) -> bool
+    ensures { λ r. ⌜ r ≡ localsThere (now (s .entry)) q ⌝ }
 {
-    (index as usize) < globals.len() / 4
+    let pg = q.page;
+    let at = q.offset as usize + pg.local_opcodes_offset as usize;
+    at + 4 * pg.local_opcodes_len as usize <= s.len()
+}
+
+// The page's local opcodes; none where they are not there.
+fn locals_at(s: &[u8], q: Place, there: bool) -> &[u8]
+    requires { ⌜ there ≡ localsThere (now s) q ⌝ }
+    ensures { λ r. ⌜ now r ≡ cond there (localsAt (now (s .entry)) q) [] ⌝ }
+{
+    if !there {
+        return &s[..0];
+    }
+    let pg = q.page;
+    let at = q.offset as usize + pg.local_opcodes_offset as usize;
+    inside(s, at, 4 * pg.local_opcodes_len as usize)
 }
 
 // The four bytes of the opcode that the index names, a part of the one palette or of the other; an empty part where it names none.
@@ -126,96 +141,99 @@ pub fn opcode_part<'a>(globals: &'a [u8], locals: &'a [u8], index: u32) -> &'a [
 {
     let i = index as usize;
     let n = globals.len() / 4;
-    if i < n {
-        return four(globals, 4 * i);
+    let m = locals.len() / 4;
+    if i >= n + m {
+        return &locals[..0];
     }
-    four(locals, 4 * (i - n))
+    if i < n {
+        return inside(globals, 4 * i, 4);
+    }
+    inside(locals, 4 * (i - n), 4)
 }
 
-// Start and end of function i, as whole numbers.
-pub fn start_in(functions: &[u8], pg: Page, i: u32) -> u64
-    ensures { λ r. ⌜ r ≡ startIn (now (functions .entry)) pg i ⌝ }
+fn unnamed(there: bool) -> Error
+    ensures { λ r. ⌜ r ≡ cond there Error.LocalIndex Error.LocalOpcodes ⌝ }
+{
+    if there {
+        Error::LocalIndex
+    } else {
+        Error::LocalOpcodes
+    }
+}
+
+// The opcode that the index names.
+fn named<'a>(s: &'a [u8], globals: &'a [u8], q: Place, index: u32) -> Resolved
+    ensures { λ r. ⌜ opcodeTold r ≡ resolveOf (now (globals .entry)) (localsAt (now (s .entry)) q) (localsThere (now (s .entry)) q) index ⌝ }
+{
+    let there = has_locals(s, q);
+    let bytes = opcode_part(globals, locals_at(s, q, there), index);
+    if bytes.len() < 4 {
+        return Resolved::Refused(unnamed(there));
+    }
+    Resolved::Opcode(word(bytes, 0))
+}
+
+// Entry i of a list; past the last, the next page's first address.
+fn entry_at(list: &[u8], pg: Page, next: u32, i: usize) -> Entry
+    requires { ⌜ sizeOf (layout (pg .kind)) * pg .«functions_len» ≤ length (now list) ⌝ }
+    ensures { λ r. ⌜ r ≡ entryIn (now (list .entry)) pg next i ⌝ }
 {
     let kind = pg.kind;
-    let base = pg.base;
-    base as u64 + search::key(functions, layout_of(kind), i) as u64
-}
-
-pub fn end_in(functions: &[u8], pg: Page, next: u32, i: u32) -> u64
-    ensures { λ r. ⌜ r ≡ endIn (now (functions .entry)) pg next i ⌝ }
-{
-    let n = pg.functions_len;
-    if i as u64 + 1 < n as u64 {
-        start_in(functions, pg, i + 1)
-    } else {
-        next as u64
+    let base = pg.base as u64;
+    if pg.functions_len as usize <= i {
+        let start = next as u64;
+        return Entry { word: 0, start };
     }
-}
-
-fn is_unreadable(globals: &[u8], there: bool, index: u32) -> bool
-    ensures { λ r. ⌜ r ≡ not (isGlobal (now (globals .entry)) index || there) ⌝ }
-{
-    if is_global(globals, index) {
-        return false;
-    }
-    !there
-}
-
-// The opcode that the index names; `there` says that the local opcodes are.
-fn resolve<'a>(globals: &'a [u8], locals: &'a [u8], there: bool, index: u32) -> Resolved
-    ensures { λ r. ⌜ opcodeTold r ≡ resolveOf (now (globals .entry)) (now (locals .entry)) there index ⌝ }
-{
-    if is_unreadable(globals, there, index) {
-        return Resolved::Refused(Error::LocalOpcodes);
-    }
-    let bytes = opcode_part(globals, locals, index);
-    let Read32::Value(opcode) = reader::read_u32(bytes, 0) else {
-        return Resolved::Refused(Error::LocalIndex);
-    };
-    Resolved::Opcode(opcode)
-}
-
-pub fn opcode_in<'a>(
-    kind: Kind,
-    globals: &'a [u8],
-    locals: &'a [u8],
-    there: bool,
-    functions: &[u8],
-    i: u32,
-) -> Resolved
-    ensures { λ r. ⌜ opcodeTold r ≡ opcodeIn kind (now (globals .entry)) (now (locals .entry)) there (now (functions .entry)) i ⌝ }
-{
     match kind {
-        Kind::Regular => Resolved::Opcode(reader::u32_or_0(functions, 8 * i as usize + 4)),
+        Kind::Regular => {
+            let word = word(list, search::REGULAR_ENTRY * i);
+            let start = base + word as u64;
+            Entry { word, start }
+        }
         Kind::Compressed => {
-            let word = reader::u32_or_0(functions, 4 * i as usize);
-            resolve(globals, locals, there, word / 16777216)
+            let word = word(list, search::COMPRESSED_ENTRY * i);
+            let start = base + (word % search::COMPRESSED_KEYS) as u64;
+            Entry { word, start }
         }
     }
 }
 
-// Function i of a page's list, in iteration and in lookup.
-pub fn function_in<'a>(
+// The opcode of entry i, whose first word is known.
+fn opcode_at<'a>(
+    s: &'a [u8],
     globals: &'a [u8],
-    locals: &'a [u8],
-    there: bool,
-    functions: &[u8],
-    pg: Page,
-    next: u32,
-    i: u32,
-) -> Answer
-    ensures { λ r. ⌜ functionTold r ≡ functionIn (now (globals .entry)) (now (locals .entry)) there (now (functions .entry)) pg next i ⌝ }
+    q: Place,
+    list: &[u8],
+    i: usize,
+    first: u32,
+) -> Resolved
+    requires { ⌜ (now list ≡ listAt (now s) q) × (sizeAt q ≤ length (now list)) × (i < q .page .«functions_len») × (first ≡ wordAt 4 (now list) (sizeOf (layout (q .page .kind)) * i)) ⌝ }
+    ensures { λ r. ⌜ opcodeTold r ≡ opcodeFor (now (s .entry)) (now (globals .entry)) q i ⌝ }
 {
+    let pg = q.page;
     let kind = pg.kind;
-    let start = start_in(functions, pg, i);
-    let end = end_in(functions, pg, next, i);
-    if start >= 4294967296 {
-        return Answer::Refused(Error::AddressTooLarge);
+    match kind {
+        Kind::Regular => Resolved::Opcode(word(list, search::REGULAR_ENTRY * i + 4)),
+        Kind::Compressed => named(s, globals, q, first / search::COMPRESSED_KEYS),
     }
-    if end >= 4294967296 {
-        return Answer::Refused(Error::AddressTooLarge);
+}
+
+// Why there is no such entry.
+fn no_entry(kind: Kind) -> Error
+    ensures { λ r. ⌜ r ≡ noEntry kind ⌝ }
+{
+    match kind {
+        Kind::Regular => Error::RegularPageFunctions,
+        Kind::Compressed => Error::CompressedPageFunctions,
     }
-    match opcode_in(kind, globals, locals, there, functions, i) {
+}
+
+// The function from a start to an end that fit.
+fn function_to(start: u64, end: u64, opcode: Resolved) -> Answer
+    requires { ⌜ (start < 4294967296) × (end < 4294967296) ⌝ }
+    ensures { λ r. ⌜ functionTold r ≡ spanning start end (opcodeTold opcode) ⌝ }
+{
+    match opcode {
         Resolved::Opcode(opcode) => Answer::Function(Function {
             start_address: start as u32,
             end_address: end as u32,
@@ -225,14 +243,32 @@ pub fn function_in<'a>(
     }
 }
 
-// Function i of a page.
-pub fn function_of<'a>(globals: &'a [u8], page: &'a [u8], pg: Page, next: u32, i: u32) -> Answer
-    ensures { λ r. ⌜ functionTold r ≡ functionOf (now (page .entry)) pg (now (globals .entry)) next i ⌝ }
+// Function i of the page there: a few comparisons show that what is read lies in the section, and then it is read straight.
+pub fn read<'a>(s: &'a [u8], globals: &'a [u8], q: Place, i: u32) -> Answer
+    ensures { λ r. ⌜ functionTold r ≡ readOf (now (s .entry)) (now (globals .entry)) q i ⌝ }
 {
-    let there = raw::has_local_opcodes(page, pg);
-    let locals = local_opcodes(page, pg);
-    let list = functions(page, pg);
-    function_in(globals, locals, there, list, pg, next, i)
+    let pg = q.page;
+    let next = q.next;
+    let kind = pg.kind;
+    let k = i as usize;
+    if !has_list(s, q) {
+        return Answer::Refused(no_entry(kind));
+    }
+    if pg.functions_len <= i {
+        return Answer::Refused(no_entry(kind));
+    }
+    let list = list_at(s, q);
+    let here = entry_at(list, pg, next, k);
+    let after = entry_at(list, pg, next, k + 1);
+    // For speed one test for both: whether either has more than 32 bits.
+    if here.start / 4294967296 + after.start / 4294967296 > 0 {
+        return Answer::Refused(Error::AddressTooLarge);
+    }
+    function_to(
+        here.start,
+        after.start,
+        opcode_at(s, globals, q, list, k, here.word),
+    )
 }
 
 // Page p, opened whole.
@@ -240,7 +276,6 @@ pub fn open_at(s: &[u8], lists: Lists, p: u32) -> Opened
     ensures { λ r. ⌜ pageTold r ≡ openedAt (now (s .entry)) lists p ⌝ }
 {
     let pages = raw::pages(s, lists);
-    let first = raw::first_address(pages, p);
-    let offset = raw::page_offset(pages, p);
-    raw::open_page(s, offset, first)
+    let e = raw::page_entry(pages, p);
+    raw::open_page(s, e.offset, e.first)
 }

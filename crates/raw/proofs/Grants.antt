@@ -49,6 +49,10 @@ module _ (s : List ℕ) where
     unfolding pagesOf
     length-pages t = length-part s (l .«pages_offset») (12 * l .«pages_len») (fits (12 * l .«pages_len») s (l .«pages_offset») t)
 
+  -- and they are granted again
+  pub granted-again : (l m : Lists) → grantOf s l ≡ good m → grantOf s m ≡ good m
+  granted-again l m e = ap (grantOf s) (granted l m e .0) ∙ e
+
   pub no-header : grantedOf 28 s 0 ≡ false → refused 1 ≡ parseOf s
   unfolding parseOf
   no-header t = simp t

@@ -11,6 +11,7 @@ use Rattle.search.specs.Search.{keyOf}
 use Rattle.raw.specs.declared.Lists.{Lists}
 use Rattle.raw.specs.declared.Kind.{Kind}
 use Rattle.raw.specs.declared.Page.{Page}
+use Rattle.raw.specs.declared.PageEntry.{PageEntry}
 use Rattle.raw.specs.declared.Parsed.{Parsed}
 use Rattle.raw.specs.declared.Opened.{Opened}
 use Rattle.raw.specs.Checked.{Checked, good, refused, _>>=_, _>>_, check, numberOf}
@@ -45,6 +46,10 @@ firstIn pages p = keyOf pages Layout.Pages p
 
 unfoldable pub offsetIn : List ℕ → ℕ → ℕ
 offsetIn pages p = wordAt 4 pages (12 * p + 4)
+
+-- both, and where the next page starts
+abbrev pub entryOf : List ℕ → ℕ → PageEntry
+entryOf pages p = record { first = firstIn pages p; offset = offsetIn pages p; next = firstIn pages (p + 1) }
 
 -- 2.3 to 2.5: a page is the part of the section that starts at its page_offset; the two kinds, without the local opcodes' check
 unfoldable pub regularOf : List ℕ → Checked Page

@@ -4,7 +4,7 @@ ghost use Prim.Native.Nat.{_+_, _*_, _≤_, _<_};
 ghost use lib.ListN.{length, drop};
 ghost use Rattle.reader.specs.Reader.{grantedOf, sliceTold, partAt};
 ghost use Rattle.raw.specs.Checked.{numberOf};
-ghost use Rattle.raw.specs.Raw.{grantOf, headerOf, parseOf, globalsOf, pagesOf, firstIn, offsetIn, regularOf, compressedOf, byKind, pageOf, localsGranted, openOf, listsTold, pageTold};
+ghost use Rattle.raw.specs.Raw.{grantOf, headerOf, parseOf, globalsOf, pagesOf, firstIn, offsetIn, entryOf, regularOf, compressedOf, byKind, pageOf, localsGranted, openOf, listsTold, pageTold};
 use reader::Read32;
 use search::Layout;
 
@@ -75,6 +75,13 @@ pub enum Kind {
     Compressed,
 }
 
+// An entry of the list of pages: the page's first address and its offset in the section; and where the next page starts.
+pub struct PageEntry {
+    pub first: u32,
+    pub offset: u32,
+    pub next: u32,
+}
+
 // A page that was opened: offsets count from the page's start, and keys from `base`.
 pub struct Page {
     pub kind: Kind,
@@ -101,7 +108,7 @@ pub fn grant(s: &[u8], lists: Lists) -> Parsed
     if !reader::is_granted(s, opcodes_at as usize, 4 * opcodes as usize) {
         return Parsed::Refused(Error::GlobalOpcodes);
     }
-    if !reader::is_granted(s, pages_at as usize, 12 * pages as usize) {
+    if !reader::is_granted(s, pages_at as usize, search::PAGE_ENTRY * pages as usize) {
         return Parsed::Refused(Error::Pages);
     }
     Parsed::Whole(lists)
@@ -140,7 +147,7 @@ pub fn pages(s: &[u8], lists: Lists) -> &[u8]
 {
     let at = lists.pages_offset;
     let n = lists.pages_len;
-    reader::part(s, at as usize, 12 * n as usize)
+    reader::part(s, at as usize, search::PAGE_ENTRY * n as usize)
 }
 
 pub fn first_address(pages: &[u8], p: u32) -> u32
@@ -152,7 +159,20 @@ pub fn first_address(pages: &[u8], p: u32) -> u32
 pub fn page_offset(pages: &[u8], p: u32) -> u32
     ensures { λ r. ⌜ r ≡ offsetIn (now (pages .entry)) p ⌝ }
 {
-    reader::u32_or_0(pages, 12 * p as usize + 4)
+    reader::u32_or_0(pages, search::PAGE_ENTRY * p as usize + 4)
+}
+
+pub fn page_entry(pages: &[u8], p: u32) -> PageEntry
+    ensures { λ r. ⌜ r ≡ entryOf (now (pages .entry)) p ⌝ }
+{
+    let offset = page_offset(pages, p);
+    let next = reader::u32_or_0(pages, search::PAGE_ENTRY * (p as usize + 1));
+    let first = first_address(pages, p);
+    PageEntry {
+        first,
+        offset,
+        next,
+    }
 }
 
 fn regular(page: &[u8]) -> Opened
@@ -163,7 +183,7 @@ fn regular(page: &[u8]) -> Opened
     }
     let at = reader::u16_or_0(page, 4) as u32;
     let n = reader::u16_or_0(page, 6) as u32;
-    if !reader::is_granted(page, at as usize, 8 * n as usize) {
+    if !reader::is_granted(page, at as usize, search::REGULAR_ENTRY * n as usize) {
         return Opened::Refused(Error::RegularPageFunctions);
     }
     Opened::Page(Page {
@@ -186,7 +206,7 @@ fn compressed(page: &[u8], first: u32) -> Opened
     let n = reader::u16_or_0(page, 6) as u32;
     let locals_at = reader::u16_or_0(page, 8) as u32;
     let locals = reader::u16_or_0(page, 10) as u32;
-    if !reader::is_granted(page, at as usize, 4 * n as usize) {
+    if !reader::is_granted(page, at as usize, search::COMPRESSED_ENTRY * n as usize) {
         return Opened::Refused(Error::CompressedPageFunctions);
     }
     Opened::Page(Page {

@@ -12,7 +12,7 @@ use borrow.Author.Tests.{le-leb, lt-leb, leb-true, leb-false}
 use native.Mathlib.Decide.{decLt}
 use lib.Dec.{leb}
 use lib.ListN.{length, getD, take, drop, length-drop, length-take, drop-of-length-le, List·getD-eq-default}
-use lib.Seq.{getD-drop, getD-take, take-all, take-nil, length-take-le}
+use lib.Seq.{getD-drop, getD-take, take-all, take-nil, length-take-le, drop-drop}
 use Rattle.reader.specs.Reader.{value, outside, numberAt, grantedOf, readOf, orZero, wordAt, partOf, Slice, slice, further, partIn, Bytes}
 
 regroup : (a x p y : ℕ) → a + 256 * (x + p * y) ≡ a + 256 * x + p * 256 * y
@@ -139,6 +139,11 @@ module _ (s : List ℕ) (o n : ℕ) where
   pub length-part : o + n ≤ length s → length (partOf s o n) ≡ n
   unfolding partOf
   length-part h = length-take-le n (drop o s) (simp length-drop (omega arith))
+
+-- a part of what starts at p is a part of the whole
+pub part-of-part : (s : List ℕ) (p o m : ℕ) → partOf (drop p s) o m ≡ partOf s (p + o) m
+unfolding partOf
+part-of-part s p o m = ap (take m) (drop-drop o p s)
 
 -- a part of bytes is bytes
 pub bytes-tail : (s : List ℕ) (o : ℕ) → Bytes s → Bytes (drop o s)

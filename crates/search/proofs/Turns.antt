@@ -9,19 +9,20 @@ use native.Mathlib.Numerals.{unary-clauses}
 use native.Mathlib.Omega.{arith}
 use native.Mathlib.Decide.{decLt}
 use lib.Dec.{ltb}
-use lib.Pow.{pow-add, pow-pos, pow-mono}
+use lib.Pow.{pow-add, pow-pos, shr-shr, shr-mono}
 use lib.ListN.{length, getD}
 use borrow.Author.Tests.{ltb-true, ltb-false, lt-ltb}
 use Rattle.reader.specs.Reader.{numberAt, wordAt}
 use Rattle.reader.proofs.Laws.{there}
 use Rattle.search.specs.declared.Layout.{Layout}
 use Rattle.search.specs.declared.Spot.{Spot}
-use Rattle.search.specs.declared.Spots.{Spots}
+use Rattle.search.specs.declared.Keys.{Keys}
 use Rattle.search.specs.declared.Span.{Span}
-use Rattle.search.specs.declared.Rest.{Rest}
+use Rattle.search.specs.declared.four.Rest.{Rest}
+use Rattle.search.specs.declared.four.Rests.{Rests}
 use Rattle.search.specs.declared.Going.{Going}
-use Rattle.search.specs.Search.{sizeOf, mid, more, run, spotsOf}
-use Rattle.search.specs.Steps.{hi, whole, going, spanOf, Ready, Took, OnWay, Below, Arrived}
+use Rattle.search.specs.Search.{sizeOf, countOf, keyOf, mid, more, run, searchOf, spotsOf}
+use Rattle.search.specs.Steps.{hi, whole, going, spanOf, restsOf, unprobed, fewest, beginOf, Ready, Took, OnWay, Below, Arrived, Abreast, Within}
 use Rattle.search.proofs.Laws.{spot, more-more, run-done, run-up, run-down, starts, bits}
 
 -- an entry that is one of the first so many lies in the list
@@ -182,38 +183,80 @@ module _ (key : ℕ → ℕ) (x : ℕ) where
 pub none : (key : ℕ → ℕ) (x n : ℕ) → n ≡ 0 → spot 0 0 ≡ run key x 0 n
 none key x n e = sym (ap (run key x 0) e ∙ run-done key x 0 0 zero-le)
 
--- one of four searches side by side: its entries are no more than wide, and no fewer than narrow, less one
-pub record Lane (key : ℕ → ℕ) (x n : ℕ) (p : Rest) (narrow wide rounds : ℕ) : Type 0 where
-  pub here : Arrived key x n p wide rounds
-  pub most : narrow ≤ p .len + 1
+-- the entries that a list has lie in it
+pub all-inside : (l : Layout) (list : List ℕ) → sizeOf l * countOf list l ≤ length list
+unfolding countOf
+all-inside Layout.Pages list = omega arith
+all-inside Layout.Regular list = omega arith
+all-inside Layout.Compressed list = omega arith
 
-module _ (key : ℕ → ℕ) (x n : ℕ) where
-  -- as it sets out
-  pub off : (narrow wide : ℕ) → narrow ≤ n → n ≤ wide → Lane key x n (record { lo = 0; len = n }) narrow wide 0
-  off narrow wide h t = record { here = record { on = by (sets-out key x n); least = t }; most = omega arith }
-    where
-      by : OnWay key x n (going (whole n) n 0) → OnWay key x n (going (spanOf (record { lo = 0; len = n })) n 0)
-      by o = record { rounds = o .rounds; inside = o .inside; middle = refl; least = le-refl _; most = omega arith }
+pub counted-inside : (l : Layout) (list : List ℕ) (n : ℕ) → n ≡ countOf list l → sizeOf l * n ≤ length list
+counted-inside l list n e = rw e (all-inside l list)
 
-  module _ (p : Rest) (narrow wide rounds : ℕ) (a : Lane key x n p narrow wide rounds) where
-    -- what lets it go on
-    pub may-go : (l : Layout) (m : ℕ) → 2 ≤ narrow → sizeOf l * n ≤ m → Ready (sizeOf l) m (spanOf p)
-    may-go l m w h = record { fits = fewer-inside l _ _ _ (a .here .on .inside) h; some = omega (arith, a .most); middle = refl }
+-- the bisection over them is the search
+pub searched : (l : Layout) (list : List ℕ) (x n : ℕ) → n ≡ countOf list l → {r : Spot} → r ≡ run (keyOf list l) x 0 n → r ≡ searchOf list l x
+unfolding searchOf
+searched l list x n e h = h ∙ ap (run (keyOf list l) x 0) e
 
-    pub went : (q : Rest) → Took key x 1 (spanOf p) (spanOf q) → Lane key x n q (narrow / 2) (wide / 2) (rounds + 1)
-    went q t =
-        let o = onward key x n 1 _ _ (a .here .on) t in
+-- one of four searches side by side
+module _ (l : Layout) (list : List ℕ) (x : ℕ) where
+  off : Arrived l list x (unprobed l list) 0
+  off = let o = sets-out (keyOf list l) x (countOf list l) in record { rounds = o .rounds; inside = o .inside; middle = refl; least = omega arith; most = omega arith }
+
+  module _ (p : Rest) (rounds : ℕ) (a : Arrived l list x p rounds) where
+    may : 2 ≤ countOf list l / 2 ^ rounds → Ready (sizeOf l) (length list) (spanOf p)
+    may w = ready (keyOf list l) x _ l _ _ a w (all-inside l list)
+
+    goes : (q : Rest) → Took (keyOf list l) x 1 (spanOf p) (spanOf q) → Arrived l list x q (rounds + 1)
+    goes q t = rw (← shr-shr (countOf list l) rounds 1) (onward (keyOf list l) x (countOf list l) 1 _ _ a t)
+
+    -- by what is left of it the search knows how wide it is
+    pub resumes : (n : ℕ) → n ≡ countOf list l → (g : Going) → g ≡ going (spanOf p) (p .len) rounds → OnWay (keyOf list l) x n (going (g .left) (g .width) rounds)
+    resumes n e g f = rw (e, f) (record { rounds = a .rounds; inside = a .inside; middle = refl; least = le-refl _; most = omega arith })
+
+    -- at most one entry is left
+    pub nearly : p .len ≤ 1 → (n : ℕ) → n ≡ countOf list l → (g : Going) → g ≡ going (spanOf p) (p .len) rounds → Below (keyOf list l) x n 2 g
+    nearly h n e g f = rw (e, f) (record { on = resumes _ refl _ refl; narrow = omega arith })
+
+-- four of them
+module _ (l : Layout) (la lb lc ld : List ℕ) (x : Keys) where
+  pub begins : (p : Rests) → p ≡ beginOf l la lb lc ld → Abreast l la lb lc ld x (restsOf (p .a) (p .b) (p .c) (p .d) (p .narrow) 0)
+  begins p e = rw e (record { a = off l la _; b = off l lb _; c = off l lc _; d = off l ld _; narrow = omega arith })
+
+  module _ (p : Rests) (v : Abreast l la lb lc ld x p) where
+    wide : (n : ℕ) → fewest l la lb lc ld ≤ n → p .narrow ≤ n / 2 ^ p .rounds
+    wide n h = rw (v .narrow) (shr-mono (p .rounds) h)
+
+    -- each can go a round more
+    pub may-go : 2 ≤ p .narrow → Ready (sizeOf l) (length la) (spanOf (p .a)) × Ready (sizeOf l) (length lb) (spanOf (p .b)) × Ready (sizeOf l) (length lc) (spanOf (p .c)) × Ready (sizeOf l) (length ld) (spanOf (p .d))
+    may-go h = (
+      may l la _ _ _ (v .a) (omega (arith, wide (countOf la l) (omega arith))),
+      may l lb _ _ _ (v .b) (omega (arith, wide (countOf lb l) (omega arith))),
+      may l lc _ _ _ (v .c) (omega (arith, wide (countOf lc l) (omega arith))),
+      may l ld _ _ _ (v .d) (omega (arith, wide (countOf ld l) (omega arith))),
+    )
+
+    pub went : (qa qb qc qd : Rest) → Took (keyOf la l) (x .a) 1 (spanOf (p .a)) (spanOf qa) → Took (keyOf lb l) (x .b) 1 (spanOf (p .b)) (spanOf qb)
+        → Took (keyOf lc l) (x .c) 1 (spanOf (p .c)) (spanOf qc) → Took (keyOf ld l) (x .d) 1 (spanOf (p .d)) (spanOf qd)
+        → Abreast l la lb lc ld x (restsOf qa qb qc qd (p .narrow / 2) (p .rounds + 1))
+    went qa qb qc qd ta tb tc td =
         record {
-          here = record { on = record { rounds = o .rounds; inside = o .inside; middle = refl; least = le-refl _; most = omega arith }; least = omega (arith, t .small, a .here .least) };
-          most = omega (arith, t .large, a .most);
+          a = goes l la _ _ _ (v .a) qa ta;
+          b = goes l lb _ _ _ (v .b) qb tb;
+          c = goes l lc _ _ _ (v .c) qc tc;
+          d = goes l ld _ _ _ (v .d) qd td;
+          narrow = rw (← shr-shr (fewest l la lb lc ld) (p .rounds) 1, v .narrow) refl;
         }
 
-  -- at most one entry is left
-  pub nearly : (p : Rest) (rounds : ℕ) → Arrived key x n p 1 rounds → (g : Going) → g ≡ going (spanOf p) (p .len) rounds → Below key x n 2 g
-  nearly p rounds a g e = rw e (record { on = a .on; narrow = omega (arith, a .least) })
+    -- so many rounds can be counted
+    pub counted : length la < 2 ^ 64 → p .rounds ≤ 64
+    counted h = few (keyOf la l) (x .a) (countOf la l) _ (v .a) (omega (arith, less-inside l _ _ (all-inside l la)))
 
-  pub narrowed : (p : Rest) (wide rounds : ℕ) → wide < 2 → Arrived key x n p wide rounds → Arrived key x n p 1 rounds
-  narrowed p wide rounds h a = record { on = a .on; least = omega (arith, a .least) }
+-- in one list all come to their last round at once
+pub together : (l : Layout) (list : List ℕ) (x : Keys) (p : Rests) → Abreast l list list list list x p → p .narrow < 2 → Within 1 p
+together l list x p v h =
+    let e : countOf list l / 2 ^ p .rounds ≡ p .narrow = ap (λ (n : ℕ). n / 2 ^ p .rounds) (omega arith) ∙ sym (v .narrow) in
+    record { a = omega (arith, v .a .least); b = omega (arith, v .b .least); c = omega (arith, v .c .least); d = omega (arith, v .d .least) }
 
 pub each : {a b c d e f g h : Spot} → a ≡ e → b ≡ f → c ≡ g → d ≡ h → spotsOf a b c d ≡ spotsOf e f g h
 each p q r s = cc

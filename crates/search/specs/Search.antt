@@ -8,6 +8,7 @@ use lib.Dec.{ltb, leb}
 use Rattle.reader.specs.Reader.{wordAt}
 use Rattle.search.specs.declared.Spot.{Spot}
 use Rattle.search.specs.declared.Spots.{Spots}
+use Rattle.search.specs.declared.Keys.{Keys}
 use Rattle.search.specs.declared.Layout.{Layout}
 
 -- the bytes of an entry, by the list's layout: 2.2, 2.4, 2.5
@@ -52,6 +53,10 @@ searchOf list layout x = run (keyOf list layout) x 0 (countOf list layout)
 -- where four searches ended
 abbrev pub spotsOf : Spot → Spot → Spot → Spot → Spots
 spotsOf a b c d = record { a = a; b = b; c = c; d = d }
+
+-- the four searches, each in its own list
+abbrev pub spotsIn : Layout → List ℕ → List ℕ → List ℕ → List ℕ → Keys → Spots
+spotsIn l la lb lc ld x = spotsOf (searchOf la l (x .a)) (searchOf lb l (x .b)) (searchOf lc l (x .c)) (searchOf ld l (x .d))
 
 -- 3.1: the first n keys rise strictly
 abbrev pub Rising : (ℕ → ℕ) → ℕ → Type 0

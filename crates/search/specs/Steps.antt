@@ -1,11 +1,15 @@
 -- What the search's helpers promise. docs/FORMAT.md, 3.1 and 3.2, fix which entries are probed and how many; these probe the same ones.
 -- Assumes nothing.
-use Prim.Native.Nat.{ℕ, _+_, _*_, _/_, _^_, _≤_, _<_}
+use Prim.Native.Nat.{ℕ, _+_, _*_, _/_, _^_, _≤_, _<_, min}
 use mathlib.Core.Path.{_≡_}
+use mathlib.Core.List.{List}
+use Rattle.search.specs.declared.Layout.{Layout}
+use Rattle.search.specs.declared.Keys.{Keys}
 use Rattle.search.specs.declared.Span.{Span}
-use Rattle.search.specs.declared.Rest.{Rest}
+use Rattle.search.specs.declared.four.Rest.{Rest}
+use Rattle.search.specs.declared.four.Rests.{Rests}
 use Rattle.search.specs.declared.Going.{Going}
-use Rattle.search.specs.Search.{more, run}
+use Rattle.search.specs.Search.{countOf, keyOf, more, run}
 
 -- just past the entries that are left
 abbrev pub hi : Span → ℕ
@@ -49,7 +53,35 @@ pub record Below (key : ℕ → ℕ) (x n bound : ℕ) (g : Going) : Type 0 wher
 abbrev pub spanOf : Rest → Span
 spanOf p = record { lo = p .lo; len = p .len; mid = p .lo + p .len / 2 }
 
--- a search of n entries after so many rounds, with no more than `wide` entries left
-pub record Arrived (key : ℕ → ℕ) (x n : ℕ) (p : Rest) (wide rounds : ℕ) : Type 0 where
-  pub on : OnWay key x n (going (spanOf p) (p .len) rounds)
-  pub least : p .len ≤ wide
+abbrev pub restsOf : Rest → Rest → Rest → Rest → ℕ → ℕ → Rests
+restsOf a b c d narrow rounds = record { a = a; b = b; c = c; d = d; narrow = narrow; rounds = rounds }
+
+-- of a list nothing was probed
+abbrev pub unprobed : Layout → List ℕ → Rest
+unprobed l list = record { lo = 0; len = countOf list l }
+
+abbrev pub fewest : Layout → List ℕ → List ℕ → List ℕ → List ℕ → ℕ
+fewest l la lb lc ld = min (min (countOf la l) (countOf lb l)) (min (countOf lc l) (countOf ld l))
+
+-- four searches as they set out
+abbrev pub beginOf : Layout → List ℕ → List ℕ → List ℕ → List ℕ → Rests
+beginOf l la lb lc ld = restsOf (unprobed l la) (unprobed l lb) (unprobed l lc) (unprobed l ld) (fewest l la lb lc ld) 0
+
+-- a search of a list after so many rounds: each halved its width
+abbrev pub Arrived : Layout → List ℕ → ℕ → Rest → ℕ → Type 0
+Arrived l list x p rounds = OnWay (keyOf list l) x (countOf list l) (going (spanOf p) (countOf list l / 2 ^ rounds) rounds)
+
+-- four searches after as many rounds, and how wide that of the shortest list is
+pub record Abreast (l : Layout) (la lb lc ld : List ℕ) (x : Keys) (p : Rests) : Type 0 where
+  pub a : Arrived l la (x .a) (p .a) (p .rounds)
+  pub b : Arrived l lb (x .b) (p .b) (p .rounds)
+  pub c : Arrived l lc (x .c) (p .c) (p .rounds)
+  pub d : Arrived l ld (x .d) (p .d) (p .rounds)
+  pub narrow : p .narrow ≡ fewest l la lb lc ld / 2 ^ p .rounds
+
+-- none of the four has more entries left
+pub record Within (most : ℕ) (p : Rests) : Type 0 where
+  pub a : p .a .len ≤ most
+  pub b : p .b .len ≤ most
+  pub c : p .c .len ≤ most
+  pub d : p .d .len ≤ most

@@ -7,9 +7,9 @@ use Rattle.entries.proofs.open_at.Statement.{statement}
 use Rattle.entries.proofs.open_at.Tie as tie
 
 returns : tie.Need-returns
-returns c = opens-there _ _ _ _ (bytes-of (c .before .before .before .pages .ensures)) _ _ _ (c .before .before .first-address .ensures) (c .before .page-offset .ensures) (c .open-page .ensures)
+returns c = opens-there _ _ _ _ (bytes-of (c .before .before .pages .ensures)) _ (c .before .page-entry .ensures) _ (c .open-page .ensures)
 
 pub open-at-spec : {M : Type 1} → statement M
 open-at-spec =
     tie.close
-    (tie.spec (λ c κs. search needs) (λ c κs. search needs) (λ c κs. search needs) (λ c κs. search needs) returns)
+    (tie.spec (λ c κs. search needs) (λ c κs. search needs) (λ c κs. search needs) returns)
