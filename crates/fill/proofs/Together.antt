@@ -12,7 +12,7 @@ use Rattle.iterate.specs.declared.Cursor.{Cursor}
 use Rattle.iterate.specs.Iterate.{cursor, Step, answer, end, nextOf, Iterates, ends, answers, iterated}
 use Rattle.iterate.proofs.Iteration.{iterates, one-list}
 use Rattle.iterate.proofs.Left.{leftOf, fewer}
-use Rattle.fill.specs.Fill.{Why, full, ended, refusal, Taken, byStep, takenOf, answersIn}
+use Rattle.fill.specs.Fill.{Why, full, ended, refusal, byStep, takenOf, answersIn}
 use Rattle.fill.proofs.Left.{strictly}
 
 -- blocks from a cursor on, each with any room, until one says that it is the end

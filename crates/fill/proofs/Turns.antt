@@ -1,89 +1,59 @@
--- What the helpers of a page read and answer, case by case, on plain values; and the turns of a page's loop.
+-- The turns of a page's loop, on plain values.
 -- Assumes nothing.
-use Prim.Native.Nat.{ℕ, _+_, _-_, _*_, _/_, _≤_, _<_, min}
+use Prim.Native.Nat.{ℕ, _+_, _-_, _/_, _≤_, _<_, min}
 use mathlib.Core.Path.{_≡_, refl, ap, sym, _∙_}
 use mathlib.Core.List.{List}
 use native.Mathlib.Omega.{arith}
-use native.Mathlib.Decide.{decLt}
-use borrow.Author.Tests.{lt-ltb, le-ltb}
 use lib.ListN.{length, length-set}
-use Rattle.reader.specs.Reader.{wordAt}
-use Rattle.search.specs.Search.{sizeOf}
-use Rattle.raw.specs.declared.Kind.{Kind}
 use Rattle.raw.specs.declared.Error.{Error}
-use Rattle.raw.specs.Checked.{good, refused, numberOf}
-use Rattle.raw.specs.Raw.{layout}
+use Rattle.raw.specs.Checked.{Checked}
 use Rattle.entries.specs.declared.Function.{Function}
 use Rattle.entries.specs.declared.Answer.{Answer}
 use Rattle.entries.specs.Entries.{functionTold}
-use Rattle.entries.specs.declared.Source.{Source}
-use Rattle.entries.specs.declared.Entry.{Entry}
 use Rattle.fill.specs.declared.Paged.{Paged}
 use Rattle.fill.specs.declared.Stop.{Stop}
-use Rattle.entries.proofs.Reading.{no-entry, an-entry, end-too-large}
-use Rattle.entries.specs.Straight.{Inside, seamOf, entryBy, entryOf, opcodeBy, functionTo, functionFrom}
-use Rattle.fill.specs.Block.{putOf, Wrote, none, more, pagedAs, PageFilled, InPage}
+use Rattle.fill.specs.Block.{putOf, Wrote, none, more, Stops, pagedAs, PageFilled, InPage}
 
--- an end that was taken is no more than that
-module _ (s : List ℕ) (q : Source) (i : ℕ) where
-  end-fits : (here : Entry) (end : ℕ) (x : Function) → functionTo s q i here end ≡ good x → end < 4294967296
-  unfolding functionTo
-  end-fits here end x e = by-room (decLt end 4294967296)
-    where
-      by-room : Dec (end < 4294967296) → end < 4294967296
-      by-room (yes h) = h
-      by-room (no h) = absurd (let z : _≡_ {A = ℕ} 0 1 = cc (end-too-large s q i here end (omega arith)) in omega arith)
+-- what is written leaves the list as long as it was
+pub same-length : {f : ℕ → Checked Function} {n k₀ i₀ k i : ℕ} {out₀ out : List ℕ} → Wrote f n k₀ i₀ out₀ k i out → length out ≡ length out₀
+unfolding putOf
+same-length none = refl
+same-length (more w t e) = simp length-set (same-length w)
 
-module _ (s : List ℕ) (q : Source) (k₀ i₀ : ℕ) (out₀ : List ℕ) (h₀ : k₀ < length out₀ / 3) where
-  abbrev filled : Paged → List ℕ → Type 0
-  filled r out = PageFilled (functionFrom s q) (q .entries) k₀ i₀ out₀ r out
+pub sets-out : (f : ℕ → Checked Function) (n k i : ℕ) (out : List ℕ) → k < length out / 3 → i < 4294967296 → n < 4294967296
+    → (stop : ℕ) → stop ≡ min n (i + (length out / 3 - k)) → InPage f n k i out stop k i out
+sets-out f n k i out h small few stop e = record { wrote = none; turns = e; room = omega arith; index = small; few = few }
 
-  module _ (here : Entry) (e : here ≡ entryOf s q i₀) where
-    pub sets-out : i₀ < 4294967296 → q .entries < 4294967296 → here .start < 4294967296 → InPage s q k₀ i₀ out₀ k₀ i₀ here out₀
-    sets-out small few t = record { wrote = none; steps = omega arith; room = omega arith; index = small; few = few; here-is = e; start = t; list = refl }
+module _ {f : ℕ → Checked Function} {n k₀ i₀ stop k i : ℕ} {out₀ out : List ℕ} (inv : InPage f n k₀ i₀ out₀ stop k i out) where
+  abbrev filled : Paged → Type 0
+  filled r = PageFilled f n k₀ i₀ out₀ r out
 
-    -- past the last entry stands an address that fits
-    pub starts-too-high : q .entries < 4294967296 → q .next < 4294967296 → 4294967296 ≤ here .start → (r : Paged) → r ≡ pagedAs k₀ (i₀ + 1) (Stop.Refused Error.AddressTooLarge) → filled r out₀
-    unfolding functionFrom
-    starts-too-high few n t r er = by-place (decLt i₀ (q .entries))
-      where
-        by-place : Dec (i₀ < q .entries) → filled r out₀
-        by-place (yes u) = rw er (record { at = i₀; wrote = none; room = omega arith; index = omega arith; why = (h₀, u, simp (sym e, le-ltb (here .start) 4294967296 t), refl) })
-        by-place (no u) = absurd (omega (arith, ap (λ (x : Entry). x .start) (no-entry s q i₀ (omega arith)), ap (λ (x : Entry). x .start) e))
+  stops : (j : ℕ) (v : Stop) → j < 4294967296 → Stops f n (length out₀ / 3) k i j v → (r : Paged) → r ≡ pagedAs k j v → filled r
+  stops j v small why r e = rw e (record { at = i; wrote = inv .wrote; room = inv .room; index = small; why = why })
 
-  module _ (stop : ℕ) (es : stop ≡ min (q .entries) (i₀ + (length out₀ / 3 - k₀))) (k i : ℕ) (here : Entry) (out : List ℕ) (inv : InPage s q k₀ i₀ out₀ k i here out) where
-    pub page-ends : stop ≤ i → k < length out₀ / 3 → (r : Paged) → r ≡ pagedAs k i Stop.End → filled r out
-    page-ends t u r er = rw er (record { at = i; wrote = inv .wrote; room = inv .room; index = inv .index; why = (u, omega (arith, inv .steps)) })
+  pub page-ends : stop ≤ i → k < length out₀ / 3 → (r : Paged) → r ≡ pagedAs k i Stop.End → filled r
+  page-ends t u = stops i Stop.End (inv .index) (u, omega (arith, inv .turns))
 
-    pub room-ends : length out₀ / 3 ≤ k → (r : Paged) → r ≡ pagedAs k i Stop.Full → filled r out
-    room-ends u r er = rw er (record { at = i; wrote = inv .wrote; room = inv .room; index = inv .index; why = (u, refl) })
+  pub room-ends : length out₀ / 3 ≤ k → (r : Paged) → r ≡ pagedAs k i Stop.Full → filled r
+  room-ends u = stops i Stop.Full (inv .index) (u, refl)
 
-    module _ (t : i < stop) where
-      pub entry-there : i < q .entries
-      entry-there = omega arith
+  module _ (t : i < stop) where
+    there : i < n
+    there = omega (arith, inv .turns)
 
-      pub room-there : k < length out₀ / 3
-      room-there = omega (arith, inv .steps)
+    pub room-there : k < length out₀ / 3
+    room-there = omega (arith, inv .turns)
 
-      module _ (after : Entry) (ea : after ≡ entryOf s q (i + 1)) (w : Answer) (ew : functionTold w ≡ functionTo s q i here (after .start)) where
-        answers : functionFrom s q i ≡ functionTold w
-        unfolding functionFrom
-        answers = simp (sym (inv .here-is), lt-ltb (here .start) 4294967296 (inv .start), sym ea) (sym ew)
+    module _ (w : Answer) (ew : functionTold w ≡ f i) where
+      pub one-more : (x : Function) → w ≡ Answer.Function x → InPage f n k₀ i₀ out₀ stop (k + 1) (i + 1) (putOf out k x)
+      one-more x e =
+          record {
+            wrote = more (inv .wrote) there (sym ew ∙ ap functionTold e);
+            turns = omega (arith, inv .turns, room-there);
+            room = omega (arith, room-there);
+            index = omega (arith, there, inv .few);
+            few = inv .few;
+          }
 
-        pub one-more : (x : Function) → w ≡ Answer.Function x → InPage s q k₀ i₀ out₀ (k + 1) (i + 1) after (putOf out k x)
-        unfolding putOf
-        one-more x e =
-            record {
-              wrote = more (inv .wrote) entry-there (answers ∙ ap functionTold e);
-              steps = omega (arith, inv .steps);
-              room = omega (arith, room-there);
-              index = omega (arith, entry-there, inv .few);
-              few = inv .few;
-              here-is = ea;
-              start = end-fits s q i here (after .start) x (sym ew ∙ ap functionTold e);
-              list = simp length-set (inv .list);
-            }
-
-        pub one-refused : (error : Error) → w ≡ Answer.Refused error → (r : Paged) → r ≡ pagedAs k (i + 1) (Stop.Refused error) → filled r out
-        one-refused error e r er =
-            rw er (record { at = i; wrote = inv .wrote; room = inv .room; index = omega (arith, entry-there, inv .few); why = (room-there, entry-there, answers ∙ ap functionTold e, refl) })
+      pub one-refused : (error : Error) → w ≡ Answer.Refused error → (r : Paged) → r ≡ pagedAs k (i + 1) (Stop.Refused error) → filled r
+      one-refused error e = stops (i + 1) (Stop.Refused error) (omega (arith, there, inv .few)) (room-there, there, sym ew ∙ ap functionTold e, refl)

@@ -1,26 +1,17 @@
 -- For the contracts of helpers: a block on its way (docs/FORMAT.md, 5.4), which functions stand in the list, and what is still to come.
 -- Assumes nothing.
-use Prim.Native.Nat.{ℕ, suc, _+_, _-_, _*_, _/_, _≤_, _<_}
+use Prim.Native.Nat.{ℕ, suc, _+_, _-_, _*_, _/_, _≤_, _<_, min}
 use mathlib.Core.Path.{_≡_}
 use mathlib.Core.List.{List}
 use lib.ListN.{length, set}
 use Rattle.raw.specs.declared.Lists.{Lists}
-use Rattle.raw.specs.declared.Page.{Page}
 use Rattle.raw.specs.Checked.{Checked, good, refused, numberOf}
 use Rattle.entries.specs.declared.Function.{Function}
-use Rattle.entries.specs.Section.{firstOf, offsetOf}
 use Rattle.iterate.specs.Iterate.{cursor}
 use Rattle.iterate.specs.declared.Cursor.{Cursor}
 use Rattle.fill.specs.declared.Paged.{Paged}
 use Rattle.fill.specs.declared.Stop.{Stop}
-use Rattle.entries.specs.declared.Source.{Source}
-use Rattle.entries.specs.declared.Entry.{Entry}
 use Rattle.fill.specs.Fill.{after, takenOf, writtenOver}
-use Rattle.entries.specs.Straight.{sourceFrom, entryOf, functionFrom}
-
--- what page p's functions are read from
-abbrev pub sourceOf : List ℕ → Lists → ℕ → Page → Source
-sourceOf s l p pg = sourceFrom l (offsetOf s l p) (firstOf s l (suc p)) pg
 
 -- a function written as the k-th of the list
 unfoldable pub putOf : List ℕ → ℕ → Function → List ℕ
@@ -31,7 +22,7 @@ pub data Wrote (f : ℕ → Checked Function) (n k₀ i₀ : ℕ) (out₀ : List
   none : Wrote f n k₀ i₀ out₀ k₀ i₀ out₀
   more : {k i : ℕ} {out : List ℕ} {x : Function} → Wrote f n k₀ i₀ out₀ k i out → i < n → f i ≡ good x → Wrote f n k₀ i₀ out₀ (k + 1) (i + 1) (putOf out k x)
 
--- why a page gives no more, with `at` in hand, and the index that comes next
+-- why a page gives no more, before its function `at`, and the index that comes next
 abbrev pub Stops : (ℕ → Checked Function) → (n room k at index : ℕ) → Stop → Type 0
 Stops f n room k at index Stop.Full = (room ≤ k) × (index ≡ at)
 Stops f n room k at index Stop.End = (k < room) × (n ≤ at)
@@ -47,16 +38,13 @@ pub record PageFilled (f : ℕ → Checked Function) (n k₀ i₀ : ℕ) (out₀
   pub index : r .index < 4294967296
   pub why : Stops f n (length out₀ / 3) (r .functions) at (r .index) (r .stop)
 
--- in a page, entry i in hand
-pub record InPage (s : List ℕ) (q : Source) (k₀ i₀ : ℕ) (out₀ : List ℕ) (k i : ℕ) (here : Entry) (out : List ℕ) : Type 0 where
-  pub wrote : Wrote (functionFrom s q) (q .entries) k₀ i₀ out₀ k i out
-  pub steps : i + k₀ ≡ i₀ + k
+-- in a page, before function i; the loop ends at `stop`
+pub record InPage (f : ℕ → Checked Function) (n k₀ i₀ : ℕ) (out₀ : List ℕ) (stop k i : ℕ) (out : List ℕ) : Type 0 where
+  pub wrote : Wrote f n k₀ i₀ out₀ k i out
+  pub turns : stop ≡ min n (i + (length out₀ / 3 - k))
   pub room : k ≤ length out₀ / 3
   pub index : i < 4294967296
-  pub few : q .entries < 4294967296
-  pub here-is : here ≡ entryOf s q i
-  pub start : here .start < 4294967296
-  pub list : length out ≡ length out₀
+  pub few : n < 4294967296
 
 -- k functions of the section stand in the list
 pub record OnWay (s : List ℕ) (l : Lists) (c₀ : Cursor) (out₀ : List ℕ) (k p i : ℕ) (out : List ℕ) : Type 0 where

@@ -1,20 +1,20 @@
 -- What the helpers and the public calls answer, case by case, on plain values.
 -- Assumes nothing.
-use Prim.Native.Nat.{ℕ, _+_, _-_, _≤_}
+use Prim.Native.Nat.{ℕ, suc, _+_, _-_, _<_}
 use mathlib.Core.Path.{_≡_, _∙_}
 use mathlib.Core.List.{List}
-use native.Mathlib.Omega.{arith}
 use borrow.Author.Tests.{eq-eqb, ne-eqb}
-use lib.ListN.{length, take, drop}
 use Rattle.raw.specs.declared.Lists.{Lists}
 use Rattle.raw.specs.declared.Page.{Page}
+use Rattle.raw.specs.declared.PageEntry.{PageEntry}
 use Rattle.raw.specs.Checked.{Checked, good}
-use Rattle.raw.specs.Raw.{globalsOf, pagesOf, firstIn, offsetIn}
-use Rattle.raw.proofs.Opens.{opened-reads, starts-inside}
+use Rattle.raw.specs.Raw.{globalsOf, pagesOf, firstIn, entryOf}
+use Rattle.raw.proofs.Opens.{opened-reads}
 use Rattle.entries.specs.declared.Function.{Function}
-use Rattle.entries.specs.Entries.{functionOf}
-use Rattle.entries.proofs.Places.{next-is, offset-is, page-is}
-use Rattle.entries.specs.Section.{firstOf, offsetOf, openedAt, functionAt}
+use Rattle.entries.specs.Placed.{readOf}
+use Rattle.entries.specs.Section.{firstOf, offsetOf, pageAt, openedAt, functionAt}
+use Rattle.entries.proofs.Places.{next-is, offset-is}
+use Rattle.entries.proofs.Placed.{placed}
 use Rattle.iterate.specs.declared.Range.{Range}
 use Rattle.iterate.specs.Range.{rangeOf}
 
@@ -32,15 +32,10 @@ module _ (s : List ℕ) (l : Lists) where
   some-pages h pages a b ep ea eb = simp (ne-eqb (l .«pages_len») 0 h, ea, eb, ep)
 
   module _ (p : ℕ) (pages : List ℕ) (ep : pages ≡ pagesOf s l) where
-    -- it starts in the section
-    pub inside : (pg : Page) (o : ℕ) → openedAt s l p ≡ good pg → o ≡ offsetIn pages p → o + 4 ≤ length s
-    unfolding openedAt
-    inside pg o e eo =
-        let same = offset-is s l p pages ep o eo in
-        omega (arith, same, starts-inside s (offsetOf s l p) (firstOf s l p) pg (opened-reads s (offsetOf s l p) (firstOf s l p) pg e .0))
-
     -- a function of it
-    pub function-there : (w : Checked Function) (globals : List ℕ) (pg : Page) (next o i : ℕ) → globals ≡ globalsOf s l → next ≡ firstIn pages (p + 1) → o ≡ offsetIn pages p
-        → w ≡ functionOf (take (length s - o) (drop o s)) pg globals next i → w ≡ functionAt s l p pg i
-    unfolding functionAt
-    function-there w globals pg next o i eg en eo e = e ∙ simp (page-is s l p pages ep o eo, eg, next-is s l p pages ep next en)
+    pub function-there : (w : Checked Function) (globals : List ℕ) (pg : Page) (entry : PageEntry) (i : ℕ) → globals ≡ globalsOf s l → entry ≡ entryOf pages p
+        → openedAt s l p ≡ good pg → i < pg .«functions_len» → w ≡ readOf s globals (record { offset = entry .offset; next = entry .next; page = pg }) i → w ≡ functionAt s l p pg i
+    unfolding functionAt pageAt openedAt
+    function-there w globals pg entry i eg ee opened h e =
+        let read = opened-reads s (offsetOf s l p) (firstOf s l p) pg opened .0 in
+        e ∙ (simp (eg, next-is s l p pages ep entry ee, offset-is s l p pages ep entry ee)) ∙ placed s (offsetOf s l p) (firstOf s l (suc p)) (firstOf s l p) pg read (globalsOf s l) i h

@@ -1,15 +1,14 @@
 // Iteration by a cursor, and the range of addresses.
 ghost use mathlib.Core.Path.{_≡_};
-ghost use Prim.Native.Nat.{_-_, _+_, _≤_, _<_};
-ghost use lib.ListN.{length};
+ghost use Prim.Native.Nat.{_+_, _<_};
 ghost use Rattle.raw.specs.Checked.{good};
-ghost use Rattle.raw.specs.Raw.{pageTold, pagesOf, globalsOf};
 ghost use Rattle.entries.specs.Entries.{functionTold};
-ghost use Rattle.entries.specs.Section.{firstOf, offsetOf, openedAt, functionAt};
-ghost use Rattle.iterate.specs.Iterate.{answer, end, cursor, endCursor, nextOf, nextIn, nextOn, nextTold};
+ghost use Rattle.entries.specs.Section.{openedAt, functionAt};
+ghost use Rattle.iterate.specs.Iterate.{answer, endCursor, nextOf, nextIn, nextOn, nextTold};
 ghost use Rattle.iterate.specs.Range.{rangeOf, rangeIn, rangeOn, rangeTold};
 use entries::Answer;
 use entries::Function;
+use entries::Place;
 use raw::Error;
 use raw::Lists;
 use raw::Opened;
@@ -94,15 +93,19 @@ pub fn end_cursor(lists: Lists) -> Cursor
     }
 }
 
-// Function i of page p, which was opened as pg.
-fn function_at(s: &[u8], lists: Lists, p: u32, pg: Page, i: u32) -> Answer
-    requires { ⌜ (p + 1 < 4294967296) × (openedAt (now s) lists p ≡ good pg) ⌝ }
-    ensures { λ r. ⌜ functionTold r ≡ functionAt (now (s .entry)) lists p pg i ⌝ }
+// Function i of page p, which was opened.
+fn function_at(s: &[u8], lists: Lists, p: u32, page: Page, i: u32) -> Answer
+    requires { ⌜ (openedAt (now s) lists p ≡ good page) × (i < page .«functions_len») ⌝ }
+    ensures { λ r. ⌜ functionTold r ≡ functionAt (now (s .entry)) lists p page i ⌝ }
 {
     let pages = raw::pages(s, lists);
-    let next = raw::first_address(pages, p + 1);
-    let from = raw::page_offset(pages, p) as usize;
-    entries::function_of(raw::global_opcodes(s, lists), &s[from..], pg, next, i)
+    let e = raw::page_entry(pages, p);
+    let place = Place {
+        offset: e.offset,
+        next: e.next,
+        page,
+    };
+    entries::read(s, raw::global_opcodes(s, lists), place, i)
 }
 
 fn next_of(s: &[u8], lists: Lists, c: Cursor) -> Next

@@ -2,13 +2,12 @@
 -- Assumes nothing.
 use Prim.Native.Nat.{ℕ, suc, _+_, _-_, _*_, _≤_, _<_}
 use mathlib.Core.Path.{_≡_, ap, sym, _∙_}
-use mathlib.Core.Bool.{Bool}
 use mathlib.Core.List.{List}
 use native.Mathlib.Omega.{arith}
 use borrow.Author.Tests.{eq-eqb, ne-eqb}
 use lib.ListN.{length, take, drop, length-take}
 use Rattle.reader.specs.Reader.{partOf}
-use Rattle.reader.proofs.Laws.{tail, fits}
+use Rattle.reader.proofs.Laws.{tail}
 use Rattle.search.specs.declared.Spot.{Spot}
 use Rattle.search.specs.declared.Layout.{Layout}
 use Rattle.search.specs.Search.{sizeOf, countOf, keyOf, searchOf}
@@ -18,13 +17,14 @@ use Rattle.raw.specs.declared.Lists.{Lists}
 use Rattle.raw.specs.declared.Page.{Page}
 use Rattle.raw.specs.declared.Opened.{Opened}
 use Rattle.raw.specs.declared.Error.{Error}
-use Rattle.raw.specs.Checked.{Checked, good, numberOf}
-use Rattle.raw.specs.Raw.{globalsOf, pagesOf, firstIn, offsetIn, pageOf, localsGranted, layout, pageTold}
-use Rattle.raw.proofs.Opens.{starts-inside, functions-granted}
+use Rattle.raw.specs.Checked.{Checked, numberOf}
+use Rattle.raw.specs.Raw.{globalsOf, pagesOf, pageOf, layout, pageTold}
 use Rattle.entries.specs.declared.Function.{Function}
-use Rattle.entries.specs.Entries.{functionsOf, localsOf, functionIn, functionOf}
+use Rattle.entries.specs.declared.Place.{Place}
+use Rattle.entries.specs.Placed.{firstAt, listAt, readOf}
 use Rattle.entries.specs.Section.{firstOf, offsetOf, pageAt, functionAt}
-use Rattle.lookup.specs.Searched.{foundIn, searchedIn}
+use Rattle.entries.proofs.Placed.{same-list, placed}
+use Rattle.lookup.specs.Searched.{WasRead, foundIn, searchedIn}
 use Rattle.lookup.specs.Lookup.{Looked, nothing, refusal, telling, fromSpot, fromPage, atPage, fromPages, lookupOf}
 use Rattle.lookup.proofs.Steps.{no-page, last-page, a-page}
 
@@ -79,44 +79,34 @@ module _ (s : List ℕ) (l : Lists) (pages : List ℕ) (ep : pages ≡ pagesOf s
     page-refused k q = ap (λ (v : Opened). fromPage s l pc p probes (pageTold v)) (sym q) ∙ ap (fromPage s l pc p probes) reads
 
     module _ (pg : Page) (q : w ≡ Opened.Page pg) where
-      read : pageOf s o a ≡ good pg
-      read = sym e ∙ ap pageTold q
-
-      pub starts : o + 4 ≤ length s
-      starts = starts-inside s o a pg read
-
-      -- the page's bytes, as the call has them
-      abbrev pub lent : List ℕ
-      lent = take (length s - o) (drop o s)
-
-      pub its-list : pg .«functions_offset» + sizeOf (layout (pg .kind)) * pg .«functions_len» ≤ length lent
-      its-list =
-          let h = fits _ (drop o s) (pg .«functions_offset») (functions-granted s o a pg read) in
-          rw (tail o s) h
-
-      pub page-searched : (globals : List ℕ) (next : ℕ) (x : Looked) → globals ≡ globalsOf s l → next ≡ firstOf s l (suc p)
-          → x ≡ searchedIn globals lent pg next pc probes → x ≡ atPage s l pc p probes
+      pub page-found : (globals : List ℕ) (next : ℕ) (x : Looked) → globals ≡ globalsOf s l → next ≡ firstOf s l (suc p)
+          → x ≡ searchedIn globals (drop o s) pg next pc probes → x ≡ atPage s l pc p probes
       unfolding atPage fromPage searchedIn foundIn fromSpot functionAt pageAt
-      page-searched globals next x eg en ex =
-          let same : lent ≡ drop (offsetOf s l p) s = tail o s ∙ ap (λ (k : ℕ). drop k s) eo in
-          ex ∙ (simp (eg, en, same)) ∙ ap (λ (v : Opened). fromPage s l pc p probes (pageTold v)) (sym q) ∙ ap (fromPage s l pc p probes) reads
+      page-found globals next x eg en ex =
+          ex ∙ (simp (eg, en, eo)) ∙ ap (λ (v : Opened). fromPage s l pc p probes (pageTold v)) (sym q) ∙ ap (fromPage s l pc p probes) reads
+      -- the page's bytes, as a call on `&section[page_offset..]` has them
 
--- the search in a page
-module _ (page : List ℕ) (pg : Page) (functions : List ℕ) (ef : functions ≡ functionsOf page pg) (lay : Layout) (el : lay ≡ layout (pg .kind)) where
-  pub few-functions : countOf functions lay ≤ pg .«functions_len»
-  unfolding functionsOf
-  few-functions = rw el (rw ef (counted (layout (pg .kind)) page (pg .«functions_offset») (pg .«functions_len»)))
+-- the search in a page that was read
+module _ (s : List ℕ) (q : Place) (list : List ℕ) (el : list ≡ listAt s q) where
+  pub few-functions : countOf list (layout (q .page .kind)) ≤ q .page .«functions_len»
+  unfolding listAt
+  few-functions = rw el (counted (layout (q .page .kind)) s (firstAt q) (q .page .«functions_len»))
 
-  module _ (globals : List ℕ) (next pc probes y : ℕ) (ey : y ≡ pc - pg .base) (r : Spot) (er : r ≡ searchOf functions lay y) where
-    searched : foundIn globals page pg next probes r ≡ searchedIn globals page pg next pc probes
+  module _ (read : WasRead s q) (globals : List ℕ) (pc probes y : ℕ) (ey : y ≡ pc - q .page .base) (r : Spot) (er : r ≡ searchOf list (layout (q .page .kind)) y) where
+    abbrev pub Searched : Looked
+    Searched = searchedIn globals (drop (q .offset) s) (q .page) (q .next) pc probes
+
+    searched : foundIn globals (drop (q .offset) s) (q .page) (q .next) probes r ≡ Searched
     unfolding searchedIn
-    searched = ap (foundIn globals page pg next probes) (er ∙ simp (ef, el, ey))
+    searched = ap (foundIn globals (drop (q .offset) s) (q .page) (q .next) probes) (er ∙ simp (el ∙ same-list s (q .offset) (q .next) (read .0) (q .page) (read .1), ey))
 
-    pub finds-none : r .at ≡ 0 → refusal 12 (probes + r .probes) ≡ searchedIn globals page pg next pc probes
+    pub finds-none : r .at ≡ 0 → refusal 12 (probes + r .probes) ≡ Searched
     unfolding foundIn
     finds-none e = sym (simp (eq-eqb (r .at) 0 e)) ∙ searched
 
-    pub finds-one : (x : Looked) → (r .at ≡ 0 → ⊥)
-        → x ≡ telling (probes + r .probes) (functionIn globals (localsOf page pg) (localsGranted page pg) functions pg next (r .at - 1)) → x ≡ searchedIn globals page pg next pc probes
-    unfolding foundIn functionOf
-    finds-one x h ex = ex ∙ sym (simp (ne-eqb (r .at) 0 h, sym ef)) ∙ searched
+    pub finds-one : (x : Looked) (a : Checked Function) → (r .at ≡ 0 → ⊥) → a ≡ readOf s globals q (r .at - 1) → x ≡ telling (probes + r .probes) a → x ≡ Searched
+    unfolding foundIn
+    finds-one x a h ea ex =
+        let inside : r .at - 1 < q .page .«functions_len» = omega (arith, within list (layout (q .page .kind)) y (q .page .«functions_len») r er few-functions) in
+        ex ∙ ap (telling (probes + r .probes)) (ea ∙ placed s (q .offset) (q .next) (read .0) (q .page) (read .1) globals (r .at - 1) inside)
+        ∙ sym (simp (ne-eqb (r .at) 0 h)) ∙ searched

@@ -22,12 +22,11 @@ use Rattle.raw.specs.declared.Lists.{Lists}
 use Rattle.raw.specs.declared.Page.{Page}
 use Rattle.raw.specs.Checked.{Checked, good, refused, either}
 use Rattle.raw.specs.Raw.{parseOf, grantOf, pagesOf, pageOf, layout}
-use Rattle.raw.proofs.Grants.{granted, parsed}
+use Rattle.raw.proofs.Grants.{granted, granted-again, parsed}
 use Rattle.raw.proofs.Opens.{functions-granted}
 use Rattle.entries.specs.declared.Function.{Function}
 use Rattle.entries.specs.Entries.{functionsOf}
 use Rattle.entries.specs.Section.{firstOf, offsetOf, pageAt}
-use Rattle.entries.proofs.Straight.{granted-again}
 use Rattle.lookup.specs.Lookup.{Looked, refusal, telling, fromSpot, fromPage, atPage, fromPages, lookupOf, lookupIn, lookupOn, probesOf}
 use Rattle.lookup.proofs.Cases.{counted, few-pages}
 

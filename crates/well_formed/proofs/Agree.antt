@@ -6,7 +6,6 @@ use mathlib.Core.List.{List, List·Memᴰ}
 use native.Mathlib.Nat.{le-refl}
 use native.Mathlib.Decide.{decLt}
 use native.Mathlib.Omega.{arith}
-use borrow.Author.Tests.{lt-ltb}
 use Rattle.reader.specs.Reader.{Bytes}
 use Rattle.reader.proofs.Laws.{bounded-word, bytes-part}
 use Rattle.search.specs.declared.Spot.{Spot}
@@ -18,7 +17,7 @@ use Rattle.raw.specs.declared.Page.{Page}
 use Rattle.raw.specs.Checked.{good}
 use Rattle.raw.specs.Raw.{grantOf, pagesOf, firstIn, layout}
 use Rattle.entries.specs.declared.Function.{Function}
-use Rattle.entries.specs.Entries.{functionsOf, startIn, functionIn, startOf, endOf, opcodeOf, functionOf}
+use Rattle.entries.specs.Entries.{functionsOf, startIn, startOf, endOf, functionOf}
 use Rattle.entries.specs.Section.{firstOf, pageAt, openedAt, functionAt}
 use Rattle.iterate.specs.Iterate.{iterated}
 use Rattle.iterate.proofs.Members.{Place, function, page, place, member}
@@ -26,7 +25,8 @@ use Rattle.lookup.specs.Lookup.{Looked, found, nothing, telling, fromSpot, from
 use Rattle.lookup.proofs.Steps.{no-page, last-page, a-page, a-function}
 use Rattle.well_formed.specs.WellFormed.{GoodPage, GoodLists}
 use Rattle.well_formed.proofs.Counts.{search-pages, reads, search-functions}
-use Rattle.well_formed.proofs.Checker.{end-inside, end-last}
+use Rattle.well_formed.proofs.Functions.{end-low, gives}
+use Rattle.well_formed.proofs.Checker.{end-inside, end-last, locals-there, functions-good}
 
 -- the lookup's steps, after each search
 module _ (s : List ℕ) (l : Lists) (p : ℕ) where
@@ -64,26 +64,15 @@ module _ (s : List ℕ) (bytes : Bytes s) (l : Lists) where
     abbrev key : ℕ → ℕ
     key = keyOf (functionsOf (pageAt s l p) pg) (layout (pg .kind))
 
-    stop-inside : (i : ℕ) → suc i < pg .«functions_len» → stop i ≡ start (suc i)
-    stop-inside i h = end-inside (pageAt s l p) pg (firstOf s l (suc p)) i h
-
-    stop-last : (i : ℕ) → pg .«functions_len» ≤ suc i → stop i ≡ firstOf s l (suc p)
-    stop-last i h = end-last (pageAt s l p) pg (firstOf s l (suc p)) i h
-
     module _ (g : GoodPage s l p pg) where
       end-bound : (i : ℕ) → i < pg .«functions_len» → stop i ≤ firstOf s l (suc p)
-      end-bound i h = by-next (decLt (suc i) (pg .«functions_len»))
-        where
-          by-next : Dec (suc i < pg .«functions_len») → stop i ≤ firstOf s l (suc p)
-          by-next (yes t) = rw (stop-inside i t) (omega (arith, g .below (suc i) t))
-          by-next (no t) = rw (stop-last i (omega arith)) (le-refl _)
+      unfolding endOf
+      end-bound = end-low _ _ _ pg (firstOf s l (suc p)) (functions-good s l p pg (g .opens) g)
 
       -- function i is answered, in iteration as in lookup: 13 and 14 do not arise
       pub is-good : (i : ℕ) → i < pg .«functions_len» → (opcode : ℕ) × (functionAt s l p pg i ≡ good (record { «start_address» = start i; «end_address» = stop i; opcode = opcode }))
-      unfolding functionAt functionOf functionIn startOf endOf opcodeOf
-      is-good i h =
-          let o = g .resolves i h in
-          (o .0, simp (lt-ltb (start i) 4294967296 (omega (arith, g .below i h, first-bound (suc p))), lt-ltb (stop i) 4294967296 (omega (arith, end-bound i h, first-bound (suc p))), o .1))
+      unfolding functionAt functionOf startOf endOf
+      is-good i h = simp (locals-there s l p pg (g .opens)) (gives _ _ _ pg (firstOf s l (suc p)) (functions-good s l p pg (g .opens) g) (first-bound (suc p)) i h)
 
       keys-rise : Rising key (pg .«functions_len»)
       unfolding startOf startIn
@@ -118,7 +107,7 @@ module _ (s : List ℕ) (bytes : Bytes s) (l : Lists) where
       unfolding startOf startIn
       finds i t a b =
           ends-after _ _ _ (keys-rise p pg g) i t (omega (arith, base-low))
-          (λ u. omega (arith, base-low, stop-inside p pg i u))
+          (λ u. omega (arith, base-low, end-inside (pageAt s l p) pg (firstOf s l (suc p)) i u))
 
     looks : lookupOf s l pc ≡ fromPages s l pc outer
     unfolding lookupOf
@@ -153,8 +142,8 @@ module _ (s : List ℕ) (bytes : Bytes s) (l : Lists) where
     in-found p pg h g low high = by-spot (inner p pg .at) refl (search.found _ _ _ (keys-rise p pg g))
       where
         stops : (i : ℕ) → i < pg .«functions_len» → Last (key p pg) (pc - pg .base) (pg .«functions_len») (suc i) → Dec (suc i < pg .«functions_len») → pc < stop p pg i
-        stops i t last (yes u) = rw (stop-inside p pg i u) (omega (arith, base-low p pg g low, last .above (suc i) (le-refl _) u))
-        stops i t last (no u) = rw (stop-last p pg i (omega arith)) high
+        stops i t last (yes u) = rw (end-inside (pageAt s l p) pg (firstOf s l (suc p)) i u) (omega (arith, base-low p pg g low, last .above (suc i) (le-refl _) u))
+        stops i t last (no u) = rw (end-last (pageAt s l p) pg (firstOf s l (suc p)) i (omega arith)) high
 
         by-spot : (a : ℕ) → inner p pg .at ≡ a → Last (key p pg) (pc - pg .base) (pg .«functions_len») (inner p pg .at) → Outcome pc (lookupOf s l pc)
         by-spot zero e last = absurd (omega (arith, g .begins, base-low p pg g low, (rw e at last) .above 0 zero-le (g .some)))

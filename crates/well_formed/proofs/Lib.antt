@@ -1,4 +1,5 @@
 pub mod Cases
+pub mod Functions
 pub mod Counts
 pub mod Checker
 pub mod Agree

@@ -10,8 +10,11 @@ use Rattle.raw.specs.declared.Lists.{Lists}
 use Rattle.raw.specs.declared.Page.{Page}
 use Rattle.raw.specs.Checked.{Checked, good, refused, either}
 use Rattle.raw.specs.Raw.{parseOf, globalsOf}
+use Rattle.entries.specs.declared.Function.{Function}
+use Rattle.entries.specs.declared.Place.{Place}
 use Rattle.entries.specs.Entries.{functionsOf, localsOf, startIn, endIn, opcodeIn, startOf, opcodeOf}
 use Rattle.entries.specs.Section.{firstOf, pageAt, openedAt}
+use Rattle.entries.specs.Placed.{readOf}
 
 -- page p opens as in iteration, as pg, and has a function; its first function starts at the page's first_address, starts rise strictly
 -- as whole numbers, and all lie below the next page's first_address; each opcode index resolves
@@ -64,3 +67,10 @@ goodPages s l = all (l .«pages_len» - 1) (goodPage s l)
 
 unfoldable pub wellFormed : List ℕ → Bool
 wellFormed s = either (λ k. false) (goodPages s) (parseOf s)
+
+-- for the helpers: a test of start and end of a function that was given; function i is given and starts below its end
+abbrev pub given : (ℕ → ℕ → Bool) → Checked Function → Bool
+given test x = either (λ k. false) (λ f. test (f .«start_address») (f .«end_address»)) x
+
+abbrev pub goodRead : (s globals : List ℕ) → Place → ℕ → Bool
+goodRead s globals q i = given ltb (readOf s globals q i)

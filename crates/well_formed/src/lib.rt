@@ -1,50 +1,33 @@
 // Whether a section is well formed.
 ghost use mathlib.Core.Path.{_≡_};
 ghost use Prim.Native.Nat.{_+_, _<_};
-ghost use Rattle.well_formed.specs.WellFormed.{goodFunction, goodFunctions, goodOpened, goodPage, goodPages, wellFormed};
-use entries::Resolved;
+ghost use lib.ListN.{drop};
+ghost use Rattle.raw.specs.Checked.{good};
+ghost use Rattle.raw.specs.Raw.{openOf};
+ghost use Rattle.well_formed.specs.WellFormed.{all, goodOpened, goodPage, goodPages, wellFormed, goodRead};
+use entries::Answer;
+use entries::Place;
 use raw::Lists;
 use raw::Opened;
-use raw::Page;
 use raw::Parsed;
 
-// Whether function i starts below its end and its opcode resolves, in a page that opened: the local opcodes are there.
-fn is_good_function<'a>(
-    globals: &'a [u8],
-    locals: &'a [u8],
-    functions: &[u8],
-    pg: Page,
-    next: u32,
-    i: u32,
-) -> bool
-    ensures { λ r. ⌜ r ≡ goodFunction (now (globals .entry)) (now (locals .entry)) (now (functions .entry)) pg next i ⌝ }
+// Whether function i is read and starts below its end.
+fn is_good_function<'a>(s: &'a [u8], globals: &'a [u8], q: Place, i: u32) -> bool
+    ensures { λ r. ⌜ r ≡ goodRead (now (s .entry)) (now (globals .entry)) q i ⌝ }
 {
-    let kind = pg.kind;
-    let start = entries::start_in(functions, pg, i);
-    let end = entries::end_in(functions, pg, next, i);
-    if start < end {
-        match entries::opcode_in(kind, globals, locals, true, functions, i) {
-            Resolved::Opcode(_) => true,
-            Resolved::Refused(_) => false,
-        }
-    } else {
-        false
+    match entries::read(s, globals, q, i) {
+        Answer::Function(f) => f.start_address < f.end_address,
+        Answer::Refused(_) => false,
     }
 }
 
-fn are_good_functions<'a>(
-    globals: &'a [u8],
-    locals: &'a [u8],
-    functions: &[u8],
-    pg: Page,
-    next: u32,
-) -> bool
-    ensures { λ r. ⌜ r ≡ goodFunctions (now (globals .entry)) (now (locals .entry)) (now (functions .entry)) pg next ⌝ }
+fn are_good_functions<'a>(s: &'a [u8], globals: &'a [u8], q: Place) -> bool
+    ensures { λ r. ⌜ r ≡ all (q .page .«functions_len») (goodRead (now (s .entry)) (now (globals .entry)) q) ⌝ }
 {
-    let n = pg.functions_len;
+    let n = q.page.functions_len;
     let mut i: u32 = 0;
     while i < n {
-        if !is_good_function(globals, locals, functions, pg, next, i) {
+        if !is_good_function(s, globals, q, i) {
             return false;
         }
         i += 1;
@@ -53,34 +36,33 @@ fn are_good_functions<'a>(
 }
 
 // Whether a page that opened has functions, from its first address on, that are all good.
-fn is_good_opened<'a>(globals: &'a [u8], page: &'a [u8], pg: Page, first: u32, next: u32) -> bool
-    ensures { λ r. ⌜ r ≡ goodOpened (now (globals .entry)) (now (page .entry)) pg first next ⌝ }
+fn is_good_opened<'a>(s: &'a [u8], globals: &'a [u8], q: Place, first: u32) -> bool
+    requires { ⌜ openOf (now s) (q .offset) first ≡ good (q .page) ⌝ }
+    ensures { λ r. ⌜ r ≡ goodOpened (now (globals .entry)) (drop (q .offset) (now (s .entry))) (q .page) first (q .next) ⌝ }
 {
-    let n = pg.functions_len;
-    let functions = entries::functions(page, pg);
-    if n == 0 {
+    let Answer::Function(f) = entries::read(s, globals, q, 0) else {
+        return false;
+    };
+    if f.start_address != first {
         return false;
     }
-    if entries::start_in(functions, pg, 0) != first as u64 {
-        return false;
-    }
-    let locals = entries::local_opcodes(page, pg);
-    are_good_functions(globals, locals, functions, pg, next)
+    are_good_functions(s, globals, q)
 }
 
 fn is_good_page(s: &[u8], lists: Lists, p: u32) -> bool
-    requires { ⌜ p + 1 < 4294967296 ⌝ }
     ensures { λ r. ⌜ r ≡ goodPage (now (s .entry)) lists p ⌝ }
 {
     let pages = raw::pages(s, lists);
-    let first = raw::first_address(pages, p);
-    let next = raw::first_address(pages, p + 1);
-    let offset = raw::page_offset(pages, p);
-    let Opened::Page(pg) = raw::open_page(s, offset, first) else {
+    let e = raw::page_entry(pages, p);
+    let Opened::Page(page) = raw::open_page(s, e.offset, e.first) else {
         return false;
     };
-    let from = offset as usize;
-    is_good_opened(raw::global_opcodes(s, lists), &s[from..], pg, first, next)
+    let q = Place {
+        offset: e.offset,
+        next: e.next,
+        page,
+    };
+    is_good_opened(s, raw::global_opcodes(s, lists), q, e.first)
 }
 
 // The last page entry only marks the end.

@@ -1,16 +1,11 @@
 -- `fill::fill_in` meets its contract: as the lists are granted or refused.
 -- Assumes nothing.
 use borrow.Author.Needs.{needs}
-use mathlib.Core.Path.{refl, ap, sym, _∙_}
-use Rattle.raw.specs.Raw.{listsTold}
+use mathlib.Core.Path.{refl}
 use Rattle.raw.proofs.Grants.{where-whole, where-refused}
 use Rattle.fill.specs.Fill.{fillIn}
-use Rattle.entries.proofs.Straight.{granted-again}
 use Rattle.fill.proofs.fill_in.Statement.{statement}
 use Rattle.fill.proofs.fill_in.Tie as tie
-
-fill-of-requires : tie.Need-fill-of-requires
-fill-of-requires c κs = granted-again _ _ _ (sym (c .before .before .before .before .grant .ensures) ∙ ap listsTold (c .before .before .granted .given .1))
 
 returns : tie.Need-returns
 unfolding fillIn
@@ -23,4 +18,4 @@ returns-2 c = where-refused _ _ _ _ (c .before .before .before .grant .ensures) 
 pub fill-in-spec : {M : Type 1} → statement M
 fill-in-spec =
     tie.close
-    (tie.spec (λ c κs. search needs) (λ c. search needs) fill-of-requires (λ c. search needs) (λ c. search needs) returns returns-2)
+    (tie.spec (λ c κs. search needs) (λ c. search needs) (λ c κs. search needs) (λ c. search needs) (λ c. search needs) returns returns-2)

@@ -23,7 +23,9 @@ returns : tie.Need-returns Inv-loop μ-loop
 returns c = stops-refused _ _ _ _ _ (c .before .before .before .before .before .loop .inv .1) (omega (arith, c .before .before .before .before .loop-test .taken)) _ (c .before .before .before .open-at .ensures) _ (c .before .error .given .1)
 
 function-at-requires : tie.Need-function-at-requires Inv-loop μ-loop
-function-at-requires c κs = (omega (arith, c .before .before .before .before .before .loop-test .taken), sym (c .before .before .before .before .open-at .ensures) ∙ ap pageTold (c .before .before .pg .given .1))
+function-at-requires c κs =
+    let opened = c .before .before .before .before in
+    (sym (opened .open-at .ensures) ∙ ap pageTold (c .before .before .pg .given .1), c .if1 .taken)
 
 returns-2 : tie.Need-returns-2 Inv-loop μ-loop
 returns-2 c =

@@ -1,10 +1,9 @@
 -- `lookup::lookup_in` meets its contract: as the lists are granted or refused.
 -- Assumes nothing.
-use Rattle.entries.proofs.Straight.{granted-again}
 use borrow.Author.Needs.{needs}
 use mathlib.Core.Path.{refl, ap, sym, _∙_}
 use Rattle.raw.specs.Raw.{listsTold}
-use Rattle.raw.proofs.Grants.{where-whole, where-refused}
+use Rattle.raw.proofs.Grants.{granted-again, where-whole, where-refused}
 use Rattle.lookup.specs.Lookup.{lookupIn}
 use Rattle.lookup.proofs.lookup_in.Statement.{statement}
 use Rattle.lookup.proofs.lookup_in.Tie as tie

@@ -6,22 +6,21 @@ use mathlib.Core.Path.{_≡_, sym, _∙_}
 use mathlib.Core.Bool.{true}
 use borrow.Author.Tests.{not-true, not-false}
 use native.Mathlib.Omega.{arith}
-use Rattle.well_formed.specs.WellFormed.{all, goodFunction, goodFunctions}
+use Rattle.well_formed.specs.WellFormed.{all, goodRead}
 use Rattle.well_formed.proofs.Cases.{starts, goes-on, stops, ends}
 use Rattle.well_formed.proofs.are_good_functions.Statement.{statement}
 use Rattle.well_formed.proofs.are_good_functions.Tie as tie
 
 abbrev Inv-loop : tie.InvT-loop
-Inv-loop globals locals functions pg next n i₀ i = (i ≤ n) × (all i (goodFunction globals locals functions pg next) ≡ true)
+Inv-loop s globals q n i₀ i = (i ≤ n) × (all i (goodRead s globals q) ≡ true)
 
 abbrev μ-loop : tie.MeasureT-loop
-μ-loop globals locals functions pg next n i₀ i = n - i
+μ-loop s globals q n i₀ i = n - i
 
 loop-holds : tie.Need-loop-holds Inv-loop μ-loop
 loop-holds c = (zero-le, starts _)
 
 returns : tie.Need-returns Inv-loop μ-loop
-unfolding goodFunctions
 returns c = stops _ _ _ (c .before .before .loop-test .taken) (sym (c .before .is-good-function .ensures) ∙ not-true _ (c .if1 .taken))
 
 add-i : tie.Need-add-i Inv-loop μ-loop
@@ -34,7 +33,6 @@ loop-again : tie.Need-loop-again Inv-loop μ-loop
 loop-again c = (omega arith, goes-on _ _ (c .before .before .before .loop .inv .1) (sym (c .before .is-good-function .ensures) ∙ not-false _ (c .if1 .left)))
 
 returns-2 : tie.Need-returns-2 Inv-loop μ-loop
-unfolding goodFunctions
 returns-2 c = ends _ _ _ (c .before .loop .inv .0) (c .loop-test .left) (c .before .loop .inv .1)
 
 pub are-good-functions-spec : {M : Type 1} → statement M
