@@ -8,6 +8,7 @@ use native.Mathlib.Decide.{decLe}
 use borrow.Author.Tests.{le-leb, lt-leb}
 use lib.ListN.{length, getD, take, drop, set, length-append, length-drop}
 use lib.Seq.{sets-eq, take-suc, take-at, drop-drop, drop-append-add, length-take-le}
+use Rattle.search.specs.declared.Keys.{Keys}
 use Rattle.raw.specs.declared.Lists.{Lists}
 use Rattle.raw.specs.Checked.{good}
 use Rattle.raw.specs.Raw.{parseOf}
@@ -15,6 +16,10 @@ use Rattle.lookup.specs.Lookup.{Looked, lookupIn, lookupOn}
 use Rattle.batch.specs.declared.Numbers.{Numbers}
 use Rattle.batch.specs.Batch.{numbersOf, listed, answersOf, standing, fewerOf, putOf, fourFound, batch, batchOf}
 use Rattle.lookup.proofs.One.{after-parse}
+
+-- four addresses, from the k-th on
+abbrev pub keysAt : List ℕ → ℕ → Keys
+keysAt xs k = record { a = getD xs k 0; b = getD xs (k + 1) 0; c = getD xs (k + 2) 0; d = getD xs (k + 3) 0 }
 
 -- four numbers set one after the other
 pub set-four : (out : List ℕ) (k : ℕ) (n : Numbers) → 4 * k + 4 ≤ length out
@@ -34,6 +39,9 @@ unfolding putOf
 length-put out k n h =
     length-append (take (4 * k) out ++ listed n) (drop (4 * k + 4) out)
     ∙ omega (arith, length-append (take (4 * k) out) (listed n), length-take-le (4 * k) out (omega arith), length-drop (4 * k + 4) out)
+
+pub after-put : (out o : List ℕ) (k : ℕ) (n : Numbers) → o ≡ putOf out k n → 4 * k + 4 ≤ length out → length o ≡ length out
+after-put out o k n e h = ap length e ∙ length-put out k n h
 
 module _ (look : ℕ → Looked) where
   length-answers : (xs : List ℕ) → length (answersOf look xs) ≡ 4 * length xs
@@ -89,7 +97,7 @@ module _ (look : ℕ → Looked) where
 
   -- four answers more
   pub four-more : (xs out : List ℕ) (k : ℕ) → k + 4 ≤ length xs → 4 * k + 16 ≤ length out
-      → fourFound look (standing look xs out k) k (getD xs k 0) (getD xs (k + 1) 0) (getD xs (k + 2) 0) (getD xs (k + 3) 0) ≡ standing look xs out (k + 4)
+      → fourFound look (standing look xs out k) k (keysAt xs k) ≡ standing look xs out (k + 4)
   four-more xs out k h t =
       let e1 : k + 1 + 1 ≡ k + 2 = omega arith in
       let e2 : k + 2 + 1 ≡ k + 3 = omega arith in
@@ -126,21 +134,28 @@ module _ (a b : ℕ) where
       by-order (yes h) = omega (arith, is-fewer h)
       by-order (no h) = omega (arith, is-more (omega arith))
 
+-- the answers that there are addresses and room for
+module _ (look : ℕ → Looked) (xs out : List ℕ) (n : ℕ) (e : n ≡ fewerOf (length xs) (length out / 4)) where
+  pub enough : (n ≤ length xs) × (4 * n ≤ length out)
+  enough = (omega (arith, fewer-left (length xs) (length out / 4)), omega (arith, fewer-right (length xs) (length out / 4)))
+
+  pub begun-long : (k : ℕ) (o : List ℕ) → k ≤ n → o ≡ standing look xs out k → length o ≡ length out
+  begun-long k o h f = ap (λ (l : List ℕ). length l) f ∙ length-standing look xs out k (omega (arith, enough .0)) (omega (arith, enough .1))
+
 pub whole : (s xs out : List ℕ) (n : ℕ) (list : List ℕ) → n ≡ fewerOf (length xs) (length out / 4) → list ≡ standing (lookupOn s) xs out n → batch n list ≡ batchOf s xs out
 unfolding batchOf
 whole s xs out n list e f = ap (batch n) f ∙ ap (λ (k : ℕ). batch k (standing (lookupOn s) xs out k)) e
 
 -- on the lists of a parse
-pub on-bytes : (s : List ℕ) (l : Lists) → parseOf s ≡ good l → (out : List ℕ) (k a b c d : ℕ) → fourFound (lookupIn s l) out k a b c d ≡ fourFound (lookupOn s) out k a b c d
-on-bytes s l e out k a b c d = simp (after-parse s l e a, after-parse s l e b, after-parse s l e c, after-parse s l e d)
+pub on-bytes : (s : List ℕ) (l : Lists) → parseOf s ≡ good l → (out : List ℕ) (k : ℕ) (x : Keys) → fourFound (lookupIn s l) out k x ≡ fourFound (lookupOn s) out k x
+on-bytes s l e out k x = simp (after-parse s l e (x .a), after-parse s l e (x .b), after-parse s l e (x .c), after-parse s l e (x .d))
 
 -- four answers more, and one, as the loops write them
 module _ (s xs first out : List ℕ) (k : ℕ) (e : out ≡ standing (lookupOn s) xs first k) (o : List ℕ) where
   pub four-on : (l : Lists) → parseOf s ≡ good l → k + 4 ≤ length xs → 4 * k + 16 ≤ length first
-      → o ≡ fourFound (lookupIn s l) out k (getD xs k 0) (getD xs (k + 1) 0) (getD xs (k + 2) 0) (getD xs (k + 3) 0) → o ≡ standing (lookupOn s) xs first (k + 4)
+      → o ≡ fourFound (lookupIn s l) out k (keysAt xs k) → o ≡ standing (lookupOn s) xs first (k + 4)
   four-on l p h t eo =
-      eo ∙ on-bytes s l p out k (getD xs k 0) (getD xs (k + 1) 0) (getD xs (k + 2) 0) (getD xs (k + 3) 0)
-      ∙ ap (λ (v : List ℕ). fourFound (lookupOn s) v k (getD xs k 0) (getD xs (k + 1) 0) (getD xs (k + 2) 0) (getD xs (k + 3) 0)) e ∙ four-more (lookupOn s) xs first k h t
+      eo ∙ on-bytes s l p out k (keysAt xs k) ∙ ap (λ (v : List ℕ). fourFound (lookupOn s) v k (keysAt xs k)) e ∙ four-more (lookupOn s) xs first k h t
 
   pub one-on : k < length xs → 4 * k + 4 ≤ length first → (n : Numbers) → n ≡ numbersOf (lookupOn s (getD xs k 0)) → o ≡ putOf out k n → o ≡ standing (lookupOn s) xs first (k + 1)
   one-on h t n en eo = eo ∙ ap (λ (v : List ℕ). putOf v k n) e ∙ ap (putOf (standing (lookupOn s) xs first k) k) en ∙ one-more (lookupOn s) xs first k h t

@@ -1,4 +1,3 @@
 pub mod Batches
-pub mod Header
-pub mod Laning
+pub mod Paging
 pub mod One

@@ -2,9 +2,11 @@
 -- Assumes nothing.
 use Prim.Native.Nat.{ℕ, _+_, _*_, _/_}
 use mathlib.Core.Bool.{cond}
+use mathlib.Core.Path.{_≡_}
 use mathlib.Core.List.{List, [], _∷_, _++_}
 use lib.Dec.{leb}
 use lib.ListN.{length, take, drop}
+use Rattle.search.specs.declared.Keys.{Keys}
 use Rattle.batch.specs.declared.Numbers.{Numbers}
 use Rattle.lookup.specs.Lookup.{Looked, found, nothing, refusal, lookupOn}
 
@@ -53,5 +55,9 @@ putOf out k n = take (4 * k) out ++ listed n ++ drop (4 * k + 4) out
 abbrev pub fourPut : List ℕ → ℕ → (a b c d : Numbers) → List ℕ
 fourPut out k a b c d = putOf (putOf (putOf (putOf out k a) (k + 1) b) (k + 2) c) (k + 3) d
 
-abbrev pub fourFound : (ℕ → Looked) → List ℕ → (k a b c d : ℕ) → List ℕ
-fourFound look out k a b c d = fourPut out k (numbersOf (look a)) (numbersOf (look b)) (numbersOf (look c)) (numbersOf (look d))
+abbrev pub fourFound : (ℕ → Looked) → List ℕ → ℕ → Keys → List ℕ
+fourFound look out k x = fourPut out k (numbersOf (look (x .a))) (numbersOf (look (x .b))) (numbersOf (look (x .c))) (numbersOf (look (x .d)))
+
+-- where the first answers up to one stand in a list, they stand up to another
+abbrev pub GoesOn : (ℕ → Looked) → List ℕ → List ℕ → ℕ → List ℕ → ℕ → Type 0
+GoesOn look xs old from new to = (first : List ℕ) → old ≡ standing look xs first from → length first ≡ length old → new ≡ standing look xs first to

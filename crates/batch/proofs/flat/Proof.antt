@@ -1,6 +1,6 @@
 -- `batch::flat` meets its contract: four numbers for each case.
 -- Assumes nothing.
-use Rattle.batch.proofs.Laning.{few-told}
+use Rattle.batch.proofs.Paging.{few-told}
 use Rattle.batch.specs.Batch.{numbers, numbersOf}
 use Rattle.lookup.specs.Lookup.{lookedTold}
 use Rattle.lookup.specs.declared.Found.{Found}

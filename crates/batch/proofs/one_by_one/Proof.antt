@@ -1,9 +1,8 @@
 -- `batch::one_by_one` meets its contract: each turn writes an answer more.
 -- Assumes nothing.
 use Rattle.batch.specs.Batch.{numbersOf}
-use Rattle.batch.proofs.Batches.{one-on}
 use borrow.Author.Needs.{needs}
-use Rattle.batch.proofs.Batches.{length-put}
+use Rattle.batch.proofs.Batches.{after-put, one-on}
 use Rattle.lookup.proofs.Probes.{few-on}
 use Rattle.batch.specs.Batch.{standing}
 use Rattle.lookup.specs.Lookup.{lookupOn, probesOf}
@@ -40,11 +39,17 @@ loop-less : tie.Need-loop-less Inv-loop μ-loop
 loop-less c = omega (arith, c .before .before .before .before .before .before .before .loop-test .taken)
 
 loop-again : tie.Need-loop-again Inv-loop μ-loop
-loop-again c = (
-  omega (arith, c .before .before .before .before .before .before .before .loop-test .taken),
-  ap (λ (l : List ℕ). length l) (c .before .before .put .ensures) ∙ length-put _ _ _ (omega (arith, c .before .before .before .before .before .before .before .before .before .before .before .before .pre .2, c .before .before .before .before .before .before .before .loop-test .taken, c .before .before .before .before .before .before .before .before .loop .inv .1)) ∙ c .before .before .before .before .before .before .before .before .loop .inv .1,
-  λ first e l. one-on _ _ _ _ _ (c .before .before .before .before .before .before .before .before .loop .inv .2 first e l) _ (omega (arith, c .before .before .before .before .before .before .before .before .before .before .before .before .pre .1, c .before .before .before .before .before .before .before .loop-test .taken)) (omega (arith, c .before .before .before .before .before .before .before .before .before .before .before .before .pre .2, c .before .before .before .before .before .before .before .loop-test .taken, l)) _ (c .before .before .before .flat .ensures ∙ ap numbersOf (c .before .before .before .before .lookup .ensures)) (c .before .before .put .ensures),
-)
+loop-again c =
+    let turn = c .before .before .before .before .before .before .before in
+    let left = turn .loop-test .taken in
+    let inv = turn .before .loop .inv in
+    let pre = turn .before .before .before .before .before .pre in
+    let written = c .before .before .put .ensures in
+    let told = c .before .before .before .flat .ensures ∙ ap numbersOf (c .before .before .before .before .lookup .ensures) in (
+      omega (arith, left),
+      after-put _ _ _ _ written (omega (arith, pre .2, left, inv .1)) ∙ inv .1,
+      λ first e l. one-on _ _ _ _ _ (inv .2 first e l) _ (omega (arith, pre .1, left)) (omega (arith, pre .2, left, l)) _ told written,
+    )
 
 same-length : tie.Need-same-length Inv-loop μ-loop
 same-length c = c .before .loop .inv .1

@@ -1,0 +1,327 @@
+// Four addresses side by side, so that the memory's waits of their searches overlap; each answer is the single lookup's.
+ghost use mathlib.Core.Path.{_≡_};
+ghost use mathlib.Core.Bool.{true};
+ghost use Prim.Native.Nat.{_+_, _-_, _*_, _≤_, _<_};
+ghost use lib.ListN.{length};
+ghost use Rattle.raw.specs.declared.Kind.{Kind};
+ghost use Rattle.raw.specs.Raw.{pagesOf};
+ghost use Rattle.entries.specs.Entries.{functionTold};
+ghost use Rattle.lookup.specs.Lookup.{lookupIn};
+ghost use Rattle.batch.specs.Batch.{numbersOf, putOf, fourFound};
+ghost use Rattle.batch.specs.Pages.{ReadAs, PageOf, Granted, Searched, PagesFor, keysIn, tellOf};
+use crate::Numbers;
+use crate::flat;
+use crate::put;
+use entries::Answer;
+use entries::Place;
+use lookup::Found;
+use raw::Error;
+use raw::Kind;
+use raw::Lists;
+use raw::Opened;
+use raw::Page;
+use search::Keys;
+use search::Spot;
+use search::Spots;
+
+// The page of an address, and the probes of its search. Where there is none it has no functions.
+struct PageFound {
+    pub place: Place,
+    pub probes: u32,
+}
+
+// The pages of four addresses.
+struct Pages {
+    pub a: PageFound,
+    pub b: PageFound,
+    pub c: PageFound,
+    pub d: PageFound,
+}
+
+fn put_lookup(s: &[u8], lists: Lists, address: u32, out: &mut [u32], k: usize)
+    requires { ⌜ 4 * k + 4 ≤ length (now out) ⌝ }
+    ensures { λ r. ⌜ now (out .exit) ≡ putOf (now (out .entry)) k (numbersOf (lookupIn (now (s .entry)) lists address)) ⌝ }
+{
+    put(out, k, flat(lookup::lookup_in(s, lists, address)));
+}
+
+fn one_after_another(s: &[u8], lists: Lists, x: Keys, out: &mut [u32], k: usize)
+    requires { ⌜ 4 * k + 16 ≤ length (now out) ⌝ }
+    ensures { λ r. ⌜ now (out .exit) ≡ fourFound (lookupIn (now (s .entry)) lists) (now (out .entry)) k x ⌝ }
+{
+    put_lookup(s, lists, x.a, out, k);
+    put_lookup(s, lists, x.b, out, k + 1);
+    put_lookup(s, lists, x.c, out, k + 2);
+    put_lookup(s, lists, x.d, out, k + 3);
+}
+
+fn no_page(kind: Kind) -> PageFound
+    ensures { λ r. ⌜ r .place .page .«functions_len» ≡ 0 ⌝ }
+{
+    PageFound {
+        place: Place {
+            offset: 0,
+            next: 0,
+            page: Page {
+                kind,
+                base: 0,
+                functions_offset: 0,
+                functions_len: 0,
+                local_opcodes_offset: 0,
+                local_opcodes_len: 0,
+            },
+        },
+        probes: 0,
+    }
+}
+
+// The page there, if it is of the one kind or of the other. Each is written out for speed: so the compiler knows the kind.
+fn compressed_page(s: &[u8], offset: u32, first: u32, next: u32, probes: u32) -> PageFound
+    ensures { λ r. ⌜ ReadAs (now (s .entry)) offset first next probes Kind.Compressed r ⌝ }
+{
+    let Opened::Page(page) = raw::read_page(s, offset, first) else {
+        return no_page(Kind::Compressed);
+    };
+    let place = Place { offset, next, page };
+    let kind = page.kind;
+    match kind {
+        Kind::Compressed => PageFound { place, probes },
+        Kind::Regular => no_page(Kind::Compressed),
+    }
+}
+
+fn regular_page(s: &[u8], offset: u32, first: u32, next: u32, probes: u32) -> PageFound
+    ensures { λ r. ⌜ ReadAs (now (s .entry)) offset first next probes Kind.Regular r ⌝ }
+{
+    let Opened::Page(page) = raw::read_page(s, offset, first) else {
+        return no_page(Kind::Regular);
+    };
+    let place = Place { offset, next, page };
+    let kind = page.kind;
+    match kind {
+        Kind::Regular => PageFound { place, probes },
+        Kind::Compressed => no_page(Kind::Regular),
+    }
+}
+
+fn page_of(s: &[u8], kind: Kind, offset: u32, first: u32, next: u32, probes: u32) -> PageFound
+    ensures { λ r. ⌜ ReadAs (now (s .entry)) offset first next probes kind r ⌝ }
+{
+    match kind {
+        Kind::Compressed => compressed_page(s, offset, first, next, probes),
+        Kind::Regular => regular_page(s, offset, first, next, probes),
+    }
+}
+
+// The page of the kind where the search of pages ended.
+fn page_at(s: &[u8], lists: Lists, pages: &[u8], kind: Kind, spot: Spot) -> PageFound
+    requires { ⌜ (now pages ≡ pagesOf (now s) lists) × (spot .at ≤ lists .«pages_len») ⌝ }
+    ensures { λ r. ⌜ (0 < r .place .page .«functions_len» → PageOf (now (s .entry)) lists spot kind r) ⌝ }
+{
+    let n = lists.pages_len;
+    let at = spot.at;
+    if at == 0 {
+        return no_page(kind);
+    }
+    if at == n as usize {
+        return no_page(kind);
+    }
+    let e = raw::page_entry(pages, (at - 1) as u32);
+    page_of(s, kind, e.offset, e.first, e.next, spot.probes)
+}
+
+// The index before the place where a search ended.
+fn before(at: usize) -> u32
+    requires { ⌜ at < 4294967296 ⌝ }
+    ensures { λ r. ⌜ r ≡ at - 1 ⌝ }
+{
+    if at == 0 { 0 } else { (at - 1) as u32 }
+}
+
+// What the search in a page tells, with the function before its end.
+fn tell(before: u32, spot: Spot, answer: Answer) -> Numbers
+    requires { ⌜ (before ≤ 32) × (spot .probes ≤ 32) ⌝ }
+    ensures { λ r. ⌜ r ≡ numbersOf (tellOf before spot (functionTold answer)) ⌝ }
+{
+    let probes = before + spot.probes;
+    let at = spot.at;
+    if at == 0 {
+        let error = Error::InvalidPageEntryFirstAddress;
+        return flat(Found::Refused { error, probes });
+    }
+    flat(lookup::answered(answer, probes))
+}
+
+// What is sought in each page: how far the address lies above the page's base.
+fn keys_in(m: Pages, x: Keys) -> Keys
+    ensures { λ r. ⌜ r ≡ keysIn m x ⌝ }
+{
+    Keys {
+        a: lookup::above(x.a, m.a.place.page.base),
+        b: lookup::above(x.b, m.b.place.page.base),
+        c: lookup::above(x.c, m.c.place.page.base),
+        d: lookup::above(x.d, m.d.place.page.base),
+    }
+}
+
+// Four searches side by side, each in its page; then each function is read, and put before the next one's is.
+fn in_compressed<'a>(
+    s: &'a [u8],
+    lists: Lists,
+    globals: &'a [u8],
+    m: Pages,
+    x: Keys,
+    out: &mut [u32],
+    k: usize,
+)
+    requires { ⌜ PagesFor (now s) lists Kind.Compressed (now globals) m x × (4 * k + 16 ≤ length (now out)) ⌝ }
+    ensures { λ r. ⌜ now (out .exit) ≡ fourFound (lookupIn (now (s .entry)) lists) (now (out .entry)) k x ⌝ }
+{
+    let q = search::four::search_compressed(
+        entries::list_of(s, m.a.place),
+        entries::list_of(s, m.b.place),
+        entries::list_of(s, m.c.place),
+        entries::list_of(s, m.d.place),
+        keys_in(m, x),
+    );
+    let fa = entries::read(s, globals, m.a.place, before(q.a.at));
+    put(out, k, tell(m.a.probes, q.a, fa));
+    let fb = entries::read(s, globals, m.b.place, before(q.b.at));
+    put(out, k + 1, tell(m.b.probes, q.b, fb));
+    let fc = entries::read(s, globals, m.c.place, before(q.c.at));
+    put(out, k + 2, tell(m.c.probes, q.c, fc));
+    let fd = entries::read(s, globals, m.d.place, before(q.d.at));
+    put(out, k + 3, tell(m.d.probes, q.d, fd));
+}
+
+fn in_regular<'a>(
+    s: &'a [u8],
+    lists: Lists,
+    globals: &'a [u8],
+    m: Pages,
+    x: Keys,
+    out: &mut [u32],
+    k: usize,
+)
+    requires { ⌜ PagesFor (now s) lists Kind.Regular (now globals) m x × (4 * k + 16 ≤ length (now out)) ⌝ }
+    ensures { λ r. ⌜ now (out .exit) ≡ fourFound (lookupIn (now (s .entry)) lists) (now (out .entry)) k x ⌝ }
+{
+    let q = search::four::search_regular(
+        entries::list_of(s, m.a.place),
+        entries::list_of(s, m.b.place),
+        entries::list_of(s, m.c.place),
+        entries::list_of(s, m.d.place),
+        keys_in(m, x),
+    );
+    let fa = entries::read(s, globals, m.a.place, before(q.a.at));
+    put(out, k, tell(m.a.probes, q.a, fa));
+    let fb = entries::read(s, globals, m.b.place, before(q.b.at));
+    put(out, k + 1, tell(m.b.probes, q.b, fb));
+    let fc = entries::read(s, globals, m.c.place, before(q.c.at));
+    put(out, k + 2, tell(m.c.probes, q.c, fc));
+    let fd = entries::read(s, globals, m.d.place, before(q.d.at));
+    put(out, k + 3, tell(m.d.probes, q.d, fd));
+}
+
+// Whether a page goes along with three others: it has functions. For speed its local opcodes are asked for once, so that no read asks again.
+fn goes_along(s: &[u8], q: Place) -> bool
+    ensures { λ r. ⌜ (r ≡ true → 0 < q .page .«functions_len») ⌝ }
+{
+    let pg = q.page;
+    if pg.functions_len == 0 {
+        return false;
+    }
+    entries::has_locals(s, q)
+}
+
+// Side by side where four pages are of one kind, else one after another. For speed each page is asked for as soon as it is read.
+fn compressed_four<'a>(
+    s: &'a [u8],
+    lists: Lists,
+    globals: &'a [u8],
+    pages: &[u8],
+    p: Spots,
+    x: Keys,
+    out: &mut [u32],
+    k: usize,
+)
+    requires { ⌜ Searched (now s) lists (now globals) (now pages) p x × (4 * k + 16 ≤ length (now out)) ⌝ }
+    ensures { λ r. ⌜ now (out .exit) ≡ fourFound (lookupIn (now (s .entry)) lists) (now (out .entry)) k x ⌝ }
+{
+    let a = page_at(s, lists, pages, Kind::Compressed, p.a);
+    if !goes_along(s, a.place) {
+        return one_after_another(s, lists, x, out, k);
+    }
+    let b = page_at(s, lists, pages, Kind::Compressed, p.b);
+    if !goes_along(s, b.place) {
+        return one_after_another(s, lists, x, out, k);
+    }
+    let c = page_at(s, lists, pages, Kind::Compressed, p.c);
+    if !goes_along(s, c.place) {
+        return one_after_another(s, lists, x, out, k);
+    }
+    let d = page_at(s, lists, pages, Kind::Compressed, p.d);
+    if !goes_along(s, d.place) {
+        return one_after_another(s, lists, x, out, k);
+    }
+    in_compressed(s, lists, globals, Pages { a, b, c, d }, x, out, k);
+}
+
+fn regular_four<'a>(
+    s: &'a [u8],
+    lists: Lists,
+    globals: &'a [u8],
+    pages: &[u8],
+    p: Spots,
+    x: Keys,
+    out: &mut [u32],
+    k: usize,
+)
+    requires { ⌜ Searched (now s) lists (now globals) (now pages) p x × (4 * k + 16 ≤ length (now out)) ⌝ }
+    ensures { λ r. ⌜ now (out .exit) ≡ fourFound (lookupIn (now (s .entry)) lists) (now (out .entry)) k x ⌝ }
+{
+    let a = page_at(s, lists, pages, Kind::Regular, p.a);
+    if !goes_along(s, a.place) {
+        return one_after_another(s, lists, x, out, k);
+    }
+    let b = page_at(s, lists, pages, Kind::Regular, p.b);
+    if !goes_along(s, b.place) {
+        return one_after_another(s, lists, x, out, k);
+    }
+    let c = page_at(s, lists, pages, Kind::Regular, p.c);
+    if !goes_along(s, c.place) {
+        return one_after_another(s, lists, x, out, k);
+    }
+    let d = page_at(s, lists, pages, Kind::Regular, p.d);
+    if !goes_along(s, d.place) {
+        return one_after_another(s, lists, x, out, k);
+    }
+    in_regular(s, lists, globals, Pages { a, b, c, d }, x, out, k);
+}
+
+// Whether the page where a search of pages ended says that it is a regular one.
+fn is_regular(s: &[u8], pages: &[u8], spot: Spot) -> bool
+    requires { ⌜ spot .at < 4294967296 ⌝ }
+{
+    let offset = raw::page_offset(pages, before(spot.at));
+    reader::u32_or_0(s, offset as usize) == raw::PAGE_KIND_REGULAR
+}
+
+pub(crate) fn answer_four<'a>(
+    s: &'a [u8],
+    lists: Lists,
+    globals: &'a [u8],
+    pages: &[u8],
+    x: Keys,
+    out: &mut [u32],
+    k: usize,
+)
+    requires { ⌜ Granted (now s) lists (now globals) (now pages) × (4 * k + 16 ≤ length (now out)) ⌝ }
+    ensures { λ r. ⌜ now (out .exit) ≡ fourFound (lookupIn (now (s .entry)) lists) (now (out .entry)) k x ⌝ }
+{
+    let p = search::four::search_pages(pages, x);
+    if is_regular(s, pages, p.a) {
+        return regular_four(s, lists, globals, pages, p, x, out, k);
+    }
+    compressed_four(s, lists, globals, pages, p, x, out, k);
+}
