@@ -11,14 +11,13 @@
 //
 //   compare/run record-exports crates/replay_exports
 use libc::STDIN_FILENO;
+use libc::STDOUT_FILENO;
 use reader::part;
 use reader::u32_or_0;
 
 mod frames;
-mod inputs;
 mod reads;
 mod sections;
-mod text;
 mod words;
 
 fn main() {
@@ -37,9 +36,9 @@ fn replay(s: &[u8]) {
 }
 
 fn answer(s: &[u8], head: &[u8], asked: &[u8]) {
-    text::write(part(head, 16, 20));
+    io::write_all(STDOUT_FILENO, part(head, 16, 20));
     call(u32_or_0(head, 0), section(s, head), asked);
-    text::end_line();
+    io::write_all(STDOUT_FILENO, b"\n");
 }
 
 fn section<'a>(s: &'a [u8], head: &[u8]) -> &'a [u8] {

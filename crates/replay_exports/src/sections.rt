@@ -1,9 +1,7 @@
 // 13 address_range_in: lists; 14 lookup_in: lists and address; 15 next_in: lists, page and index; 16 fill: how many numbers are lent, page and
 // index; 17 fill_in: the same and lists; 18 lookup_batch: how many numbers are lent, how many addresses there are, and nine addresses. A list to
 // write has 40 numbers, each 7 before the call, and the first ones of it are lent.
-use crate::inputs::room;
-use crate::text::put;
-use crate::text::put_32;
+ghost use Rattle.io.specs.Counts.{Counts};
 use brasspurse::sections::FillAnswer;
 use brasspurse::sections::LookupAnswer;
 use brasspurse::sections::NextAnswer;
@@ -16,6 +14,9 @@ use brasspurse::sections::brasspurse_lookup_in;
 use brasspurse::sections::brasspurse_next_in;
 use raw::Lists;
 use reader::u32_or_0;
+use records::put_16;
+use records::put_32;
+use records::put_64;
 
 pub fn answer(tag: u32, section: &[u8], asked: &[u8]) {
     match tag {
@@ -36,9 +37,7 @@ fn lists(asked: &[u8]) -> Lists {
 }
 
 fn put_range(range: RangeAnswer) {
-    put(range.refusal as u64);
-    put(range.start as u64);
-    put(range.end as u64);
+    put_32(&[range.refusal, range.start, range.end]);
 }
 
 fn lookup_in(section: &[u8], asked: &[u8]) {
@@ -46,12 +45,8 @@ fn lookup_in(section: &[u8], asked: &[u8]) {
 }
 
 fn put_lookup(found: LookupAnswer) {
-    put(found.start as u64);
-    put(found.end as u64);
-    put(found.opcode as u64);
-    put(found.probes as u64);
-    put(found.outcome as u64);
-    put(found.refusal as u64);
+    put_32(&[found.start, found.end, found.opcode]);
+    put_16(&[found.probes, found.outcome as u16, found.refusal as u16]);
 }
 
 fn next_in(section: &[u8], asked: &[u8]) {
@@ -64,13 +59,8 @@ fn next_in(section: &[u8], asked: &[u8]) {
 }
 
 fn put_next(next: NextAnswer) {
-    put(next.start as u64);
-    put(next.end as u64);
-    put(next.opcode as u64);
-    put(next.page as u64);
-    put(next.index as u64);
-    put(next.outcome as u64);
-    put(next.refusal as u64);
+    put_32(&[next.start, next.end, next.opcode, next.page, next.index]);
+    put_16(&[next.outcome, next.refusal]);
 }
 
 fn lent(tag: u32, section: &[u8], asked: &[u8]) {
@@ -82,6 +72,14 @@ fn lent(tag: u32, section: &[u8], asked: &[u8]) {
 fn lend(tag: u32, section: &[u8], asked: &[u8], list: &mut [u32]) {
     let n = room(asked, 0, list);
     write(tag, section, asked, &mut list[..n]);
+}
+
+// How many numbers of a list the record asks for, at a place of the record; at most all of them.
+fn room(asked: &[u8], at: usize, list: &[u32]) -> usize
+    ensures { λ r. ⌜ Counts r (now (list .entry)) ⌝ }
+{
+    let n = u32_or_0(asked, at) as usize;
+    if n < list.len() { n } else { list.len() }
 }
 
 fn write(tag: u32, section: &[u8], asked: &[u8], list: &mut [u32]) {
@@ -107,17 +105,15 @@ fn fill_in(section: &[u8], asked: &[u8], list: &mut [u32]) {
 }
 
 fn put_fill(filled: FillAnswer) {
-    put(filled.functions as u64);
-    put(filled.page as u64);
-    put(filled.index as u64);
-    put(filled.outcome as u64);
-    put(filled.refusal as u64);
+    put_64(&[filled.functions as u64]);
+    put_32(&[filled.page, filled.index]);
+    put_16(&[filled.outcome, filled.refusal]);
 }
 
 fn batch(section: &[u8], asked: &[u8], list: &mut [u32]) {
     let addresses = nine(asked);
     let n = room(asked, 4, &addresses);
-    put(brasspurse_lookup_batch(section, &addresses[..n], list) as u64);
+    put_64(&[brasspurse_lookup_batch(section, &addresses[..n], list) as u64]);
 }
 
 fn nine(asked: &[u8]) -> [u32; 9] {

@@ -3,7 +3,7 @@
 //
 // A record is little-endian numbers of 64 bits, and then the window's bytes, filled up with zeros to whole numbers:
 //
-//   tag                     1 x86_64, 2 arm64, 101 and 102 their controls; 0 alone ends the file
+//   tag                     1 x86_64, 2 arm64, 101 and 102 their controls; 0 comes last and alone
 //   word, base              word and length are read from their lowest four bytes
 //   the window's length     in bytes
 //   the registers given     pc, stack pointer, then the preserved ones in the header's order: 8 numbers on x86_64, 22 on arm64
@@ -15,15 +15,18 @@
 // account gives the same answer for the real ones too. It was made by
 //
 //   compare/run record-frames crates/replay_frames/stdin
+use answers::is_ours;
 use libc::STDIN_FILENO;
-use libc::STDOUT_FILENO;
-use places::OTHER;
-use records::replay;
+use reader::part;
+use reader::u32_or_0;
+use records::Tally;
+use records::show;
+use records::show_count;
+use records::u64_or_0;
 
 mod answers;
-mod numbers;
-mod places;
-mod records;
+
+const OTHER: u64 = 103;
 
 fn main() {
     let mut buffer = [0u8; 131072];
@@ -32,23 +35,53 @@ fn main() {
 }
 
 fn report(s: &[u8]) {
-    show(s, 1, b"x86_64");
-    show(s, 2, b"arm64");
-    show(s, 101, b"x86_64, controls");
-    show(s, 102, b"arm64, controls");
-    show_number(b"other: ", replay(s, OTHER).compared);
-    io::write_all(STDOUT_FILENO, b"\n");
+    show(b"x86_64", replay(s, 1));
+    show(b"arm64", replay(s, 2));
+    show(b"x86_64, controls", replay(s, 101));
+    show(b"arm64, controls", replay(s, 102));
+    show_count(b"other", replay(s, OTHER));
 }
 
-fn show(s: &[u8], kind: u64, name: &[u8]) {
-    let t = replay(s, kind);
-    io::write_all(STDOUT_FILENO, name);
-    show_number(b": ", t.compared);
-    show_number(b" compared, ", t.differed);
-    io::write_all(STDOUT_FILENO, b" differed\n");
+// The records of a kind.
+fn replay(s: &[u8], asked: u64) -> Tally {
+    let mut tally = Tally {
+        compared: 0,
+        differed: 0,
+    };
+    let mut at = 0;
+    while at < s.len() {
+        let record = part(s, at, s.len());
+        tally = compare(tally, asked, record);
+        at += 8 + 8 * numbers_after(record) as usize;
+    }
+    tally
 }
 
-fn show_number(before: &[u8], n: usize) {
-    io::write_all(STDOUT_FILENO, before);
-    io::print_decimal(STDOUT_FILENO, n as u64);
+// How many numbers the record has after its tag, the window's with them. Of one with another tag only the tag is passed.
+fn numbers_after(record: &[u8]) -> u32 {
+    let n = u32_or_0(record, 24);
+    let window = n / 8 + (n % 8 + 7) / 8;
+    let machine = kind(record) % 100;
+    match machine {
+        1 => 21 + window,
+        2 => 49 + window,
+        _ => 0,
+    }
+}
+
+// The record's tag, or OTHER where it is none of them.
+fn kind(record: &[u8]) -> u64 {
+    let tag = u64_or_0(record, 0);
+    match tag {
+        0..=2 | 101..=102 => tag,
+        _ => OTHER,
+    }
+}
+
+// A control has its machine's tag and 100 more.
+fn compare(tally: Tally, asked: u64, record: &[u8]) -> Tally {
+    if kind(record) != asked {
+        return tally;
+    }
+    records::count(tally, is_ours(asked % 100, record))
 }

@@ -17,15 +17,18 @@
 //   compare/run record crates/replay_opcodes/stdin
 //
 // which asks release 0.5.0, and stops if 0.3.0 says something else.
-use libc::STDOUT_FILENO;
+use answers::answer;
+use libc::STDIN_FILENO;
+use reader::part;
+use reader::u32_or_0;
 use records::Tally;
-use records::replay;
+use records::show;
 
-mod records;
+mod answers;
 
 fn main() {
     let mut buffer = [0u8; 524288];
-    let n = io::read_full(0, &mut buffer);
+    let n = io::read_full(STDIN_FILENO, &mut buffer);
     report(&buffer[..n]);
 }
 
@@ -38,11 +41,25 @@ fn report(s: &[u8]) {
     show(b"arm64 words, controls", replay(s, 103));
 }
 
-fn show(name: &[u8], t: Tally) {
-    io::write_all(STDOUT_FILENO, name);
-    io::write_all(STDOUT_FILENO, b": ");
-    io::print_decimal(STDOUT_FILENO, t.compared as u64);
-    io::write_all(STDOUT_FILENO, b" compared, ");
-    io::print_decimal(STDOUT_FILENO, t.differed as u64);
-    io::write_all(STDOUT_FILENO, b" differed\n");
+// The records that have the tag.
+fn replay(s: &[u8], tag: u32) -> Tally {
+    let mut tally = Tally {
+        compared: 0,
+        differed: 0,
+    };
+    let mut at = 0;
+    while at < s.len() {
+        tally = compare(tally, tag, part(s, at, 32));
+        at += 32;
+    }
+    tally
+}
+
+// A control has its kind's tag and 100 more.
+fn compare(tally: Tally, tag: u32, record: &[u8]) -> Tally {
+    if u32_or_0(record, 0) != tag {
+        return tally;
+    }
+    let ours = answer(tag % 100, u32_or_0(record, 4), u32_or_0(record, 8));
+    records::count(tally, records::is_recorded_32(&ours, part(record, 12, 20)))
 }

@@ -17,14 +17,23 @@
 // docs/FORMAT.md's rules and not from this code (compare/src/model.rs). It was made by
 //
 //   compare/run record-sections crates/replay_sections/stdin
+use answers::answer;
 use libc::STDIN_FILENO;
-use libc::STDOUT_FILENO;
-use places::OTHER;
-use records::replay;
+use reader::part;
+use reader::u32_or_0;
+use records::Tally;
+use records::show;
+use records::show_count;
 
 mod answers;
-mod places;
-mod records;
+
+const OTHER: u32 = 106;
+
+// Where the bytes of a section lie in the input.
+struct Place {
+    start: usize,
+    n: usize,
+}
 
 fn main() {
     let mut buffer = [0u8; 65536];
@@ -33,30 +42,80 @@ fn main() {
 }
 
 fn report(s: &[u8]) {
-    show(s, 1, b"lookups");
-    show(s, 2, b"nexts");
-    show(s, 3, b"parses");
-    show(s, 4, b"ranges");
-    show(s, 5, b"well formed");
-    show(s, 101, b"lookups, controls");
-    show(s, 102, b"nexts, controls");
-    show(s, 103, b"parses, controls");
-    show(s, 104, b"ranges, controls");
-    show(s, 105, b"well formed, controls");
-    show_number(b"sections: ", replay(s, 0).compared);
-    show_number(b"\nother: ", replay(s, OTHER).compared);
-    io::write_all(STDOUT_FILENO, b"\n");
+    show(b"lookups", replay(s, 1));
+    show(b"nexts", replay(s, 2));
+    show(b"parses", replay(s, 3));
+    show(b"ranges", replay(s, 4));
+    show(b"well formed", replay(s, 5));
+    show(b"lookups, controls", replay(s, 101));
+    show(b"nexts, controls", replay(s, 102));
+    show(b"parses, controls", replay(s, 103));
+    show(b"ranges, controls", replay(s, 104));
+    show(b"well formed, controls", replay(s, 105));
+    show_count(b"sections", replay(s, 0));
+    show_count(b"other", replay(s, OTHER));
 }
 
-fn show(s: &[u8], kind: u32, name: &[u8]) {
-    let t = replay(s, kind);
-    io::write_all(STDOUT_FILENO, name);
-    show_number(b": ", t.compared);
-    show_number(b" compared, ", t.differed);
-    io::write_all(STDOUT_FILENO, b" differed\n");
+// The records of a kind.
+fn replay(s: &[u8], asked: u32) -> Tally {
+    let mut tally = Tally {
+        compared: 0,
+        differed: 0,
+    };
+    let mut place = Place { start: 0, n: 0 };
+    let mut at: usize = 0;
+    while at < s.len() {
+        let record = part(s, at, 40);
+        at += 40;
+        place = section_at(place, record, at);
+        tally = compare(tally, asked, section(s, place), record);
+        at += 4 * ((bytes_after(record) as usize + 3) / 4);
+    }
+    tally
 }
 
-fn show_number(before: &[u8], n: usize) {
-    io::write_all(STDOUT_FILENO, before);
-    io::print_decimal(STDOUT_FILENO, n as u64);
+fn section(s: &[u8], place: Place) -> &[u8] {
+    part(s, place.start, place.n)
+}
+
+// The section whose bytes come after the record, or, if none do, the one before.
+fn section_at(before: Place, record: &[u8], start: usize) -> Place {
+    if kind(record) != 0 {
+        return before;
+    }
+    Place {
+        start,
+        n: bytes_after(record) as usize,
+    }
+}
+
+fn bytes_after(record: &[u8]) -> u32 {
+    if kind(record) == 0 {
+        u32_or_0(record, 4)
+    } else {
+        0
+    }
+}
+
+// The record's tag, or OTHER where it is none of them.
+fn kind(record: &[u8]) -> u32 {
+    let tag = u32_or_0(record, 0);
+    match tag {
+        0..=5 | 101..=105 => tag,
+        _ => OTHER,
+    }
+}
+
+// A control has its kind's tag and 100 more.
+fn compare(tally: Tally, asked: u32, section: &[u8], record: &[u8]) -> Tally {
+    if kind(record) != asked {
+        return tally;
+    }
+    let ours = answer(
+        section,
+        asked % 100,
+        u32_or_0(record, 4),
+        u32_or_0(record, 8),
+    );
+    records::count(tally, records::is_recorded_32(&ours, part(record, 12, 28)))
 }

@@ -1,4 +1,0 @@
-pub mod Rows
-pub mod Asked
-pub mod Cases
-pub mod Steps
