@@ -139,8 +139,8 @@ module _ (look : ℕ → Looked) (xs out : List ℕ) (n : ℕ) (e : n ≡ fewerO
   pub enough : (n ≤ length xs) × (4 * n ≤ length out)
   enough = (omega (arith, fewer-left (length xs) (length out / 4)), omega (arith, fewer-right (length xs) (length out / 4)))
 
-  pub begun-long : (k : ℕ) (o : List ℕ) → k ≤ n → o ≡ standing look xs out k → length o ≡ length out
-  begun-long k o h f = ap (λ (l : List ℕ). length l) f ∙ length-standing look xs out k (omega (arith, enough .0)) (omega (arith, enough .1))
+  pub standing-long : (k : ℕ) (o : List ℕ) → k ≤ n → o ≡ standing look xs out k → length o ≡ length out
+  standing-long k o h f = ap (λ (l : List ℕ). length l) f ∙ length-standing look xs out k (omega (arith, enough .0)) (omega (arith, enough .1))
 
 pub whole : (s xs out : List ℕ) (n : ℕ) (list : List ℕ) → n ≡ fewerOf (length xs) (length out / 4) → list ≡ standing (lookupOn s) xs out n → batch n list ≡ batchOf s xs out
 unfolding batchOf

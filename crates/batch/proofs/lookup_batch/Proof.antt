@@ -5,7 +5,7 @@ use mathlib.Core.Path.{sym}
 use native.Mathlib.Omega.{arith}
 use denote.Ref.{now}
 use Rattle.lookup.specs.Lookup.{lookupOn}
-use Rattle.batch.proofs.Batches.{enough, begun-long, whole}
+use Rattle.batch.proofs.Batches.{enough, standing-long, whole}
 use Rattle.batch.proofs.lookup_batch.Statement.{statement}
 use Rattle.batch.proofs.lookup_batch.Tie as tie
 
@@ -20,14 +20,14 @@ one-by-one-requires c κs =
     let a = fours .before .before .before .before .before .before .args in
     let few = fours .before .before .fewer .ensures in
     let room = enough (lookupOn (now (a .s))) (now (a .addresses)) (now (a .out)) _ few in
-    let long = begun-long _ _ _ _ few _ _ (fours .whole-fours .ensures .0) (fours .whole-fours .ensures .1) in
+    let long = standing-long _ _ _ _ few _ _ (fours .whole-fours .ensures .0) (fours .whole-fours .ensures .1) in
     (fours .whole-fours .ensures .0, room .0, omega (arith, room .1, long))
 
 returns : tie.Need-returns
 returns c =
     let fours = c .before .before .before .before .before .before in
     let few = fours .before .before .fewer .ensures in
-    let long = begun-long _ _ _ _ few _ _ (fours .whole-fours .ensures .0) (fours .whole-fours .ensures .1) in
+    let long = standing-long _ _ _ _ few _ _ (fours .whole-fours .ensures .0) (fours .whole-fours .ensures .1) in
     whole _ _ _ _ _ few (c .before .before .one-by-one .ensures (now (fours .before .before .before .before .before .before .args .out)) (fours .whole-fours .ensures .1) (sym long))
 
 pub lookup-batch-spec : {M : Type 1} → statement M
