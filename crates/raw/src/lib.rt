@@ -162,16 +162,22 @@ pub fn page_offset(pages: &[u8], p: u32) -> u32
     reader::u32_or_0(pages, search::PAGE_ENTRY * p as usize + 4)
 }
 
+// For speed what an entry and the next one have is tested at once. The last entry has no next one.
 pub fn page_entry(pages: &[u8], p: u32) -> PageEntry
     ensures { λ r. ⌜ r ≡ entryOf (now (pages .entry)) p ⌝ }
 {
-    let offset = page_offset(pages, p);
-    let next = reader::u32_or_0(pages, search::PAGE_ENTRY * (p as usize + 1));
-    let first = first_address(pages, p);
+    let at = search::PAGE_ENTRY * p as usize;
+    if !reader::is_granted(pages, at, search::PAGE_ENTRY + 4) {
+        return PageEntry {
+            first: first_address(pages, p),
+            offset: page_offset(pages, p),
+            next: 0,
+        };
+    }
     PageEntry {
-        first,
-        offset,
-        next,
+        first: reader::u32_or_0(pages, at),
+        offset: reader::u32_or_0(pages, at + 4),
+        next: reader::u32_or_0(pages, at + search::PAGE_ENTRY),
     }
 }
 

@@ -1,15 +1,16 @@
 -- The search's turns on plain values: one round, several, and a search on its way.
 -- Assumes nothing.
-use Prim.Native.Nat.{ℕ, _+_, _-_, _*_, _/_, _^_, _≤_, _<_, zero-le}
+use Prim.Native.Nat.{ℕ, suc, _+_, _-_, _*_, _/_, _^_, _≤_, _<_, zero-le}
 use mathlib.Core.Path.{_≡_, refl, ap, sym, _∙_}
 use mathlib.Core.Bool.{Bool, true, false, cond}
 use mathlib.Core.List.{List, [], _∷_}
-use native.Mathlib.Nat.{zero-add, le-refl, mul-assoc, mul-comm, mul-le-mul-left, le-div-iff-mul-le, div-lt-iff-lt-mul}
+use native.Mathlib.Nat.{zero-add, le-refl, pow-suc, mul-assoc, mul-comm, mul-le-mul-left, le-div-iff-mul-le, div-lt-iff-lt-mul}
 use native.Mathlib.Numerals.{unary-clauses}
 use native.Mathlib.Omega.{arith}
 use native.Mathlib.Decide.{decLt}
 use lib.Dec.{ltb}
-use lib.Pow.{pow-add, pow-pos, shr-shr, shr-mono}
+use lib.Pow.{pow-add, pow-pos, pow-mono, shr-shr}
+use lib.Count.{leadingZeros, leading-top}
 use lib.ListN.{length, getD}
 use borrow.Author.Tests.{ltb-true, ltb-false, lt-ltb}
 use Rattle.reader.specs.Reader.{numberAt, wordAt}
@@ -20,9 +21,10 @@ use Rattle.search.specs.declared.Keys.{Keys}
 use Rattle.search.specs.declared.Span.{Span}
 use Rattle.search.specs.declared.four.Rest.{Rest}
 use Rattle.search.specs.declared.four.Rests.{Rests}
+use Rattle.search.specs.declared.four.Counts.{Counts}
 use Rattle.search.specs.declared.Going.{Going}
 use Rattle.search.specs.Search.{sizeOf, countOf, keyOf, mid, more, run, searchOf, spotsOf}
-use Rattle.search.specs.Steps.{hi, whole, going, spanOf, restsOf, unprobed, fewest, beginOf, Ready, Took, OnWay, Below, Arrived, Abreast, Within}
+use Rattle.search.specs.Steps.{hi, whole, going, spanOf, restsOf, countsOf, allOf, Ending, unprobedOf, Ready, Took, OnWay, Below, Halved, Alike, Arrived, Abreast}
 use Rattle.search.proofs.Laws.{spot, more-more, run-done, run-up, run-down, starts, bits}
 
 -- an entry that is one of the first so many lies in the list
@@ -198,65 +200,113 @@ pub searched : (l : Layout) (list : List ℕ) (x n : ℕ) → n ≡ countOf list
 unfolding searchOf
 searched l list x n e h = h ∙ ap (run (keyOf list l) x 0) e
 
+-- so often n can be halved
+module _ (n k : ℕ) where
+  wide : (rounds : ℕ) → Halved n k → rounds < k → 2 ≤ n / 2 ^ rounds
+  wide rounds h t =
+      le-div-iff-mul-le {k = 2 ^ rounds} {x = 2} {y = n} (pow-pos rounds) .1
+      (omega (arith, pow-suc 2 rounds, pow-mono {i = suc rounds} {j = k} t, h .enough (omega arith)))
+
+  narrow : Halved n k → n / 2 ^ k < 2
+  narrow h = div-lt-iff-lt-mul {k = 2 ^ k} {x = n} {y = 2} (pow-pos k) .1 (omega (arith, pow-suc 2 k, h .fewer))
+
+-- by its leading zeros
+module _ (n : ℕ) (some : 0 < n) (fits : n < 2 ^ 64) where
+  pub few-zeros : leadingZeros 64 n ≤ 63
+  few-zeros = omega (arith, leading-top 64 n some fits .1)
+
+  pub by-zeros : Halved n (63 - leadingZeros 64 n)
+  by-zeros =
+      let top = leading-top 64 n some fits in
+      let same : 63 - leadingZeros 64 n ≡ top .0 = omega (arith, top .1) in
+      rw same (record { fewer = top .3; enough = λ h. top .2 })
+
 -- one of four searches side by side
 module _ (l : Layout) (list : List ℕ) (x : ℕ) where
-  off : Arrived l list x (unprobed l list) 0
+  off : Arrived l list x (allOf (countOf list l)) 0
   off = let o = sets-out (keyOf list l) x (countOf list l) in record { rounds = o .rounds; inside = o .inside; middle = refl; least = omega arith; most = omega arith }
 
   module _ (p : Rest) (rounds : ℕ) (a : Arrived l list x p rounds) where
-    may : 2 ≤ countOf list l / 2 ^ rounds → Ready (sizeOf l) (length list) (spanOf p)
-    may w = ready (keyOf list l) x _ l _ _ a w (all-inside l list)
+    -- two entries or more are left before the last of the rounds that its list takes
+    may : (k : ℕ) → Halved (countOf list l) k → rounds < k → Ready (sizeOf l) (length list) (spanOf p)
+    may k h t = ready (keyOf list l) x _ l _ _ a (wide _ k rounds h t) (all-inside l list)
 
     goes : (q : Rest) → Took (keyOf list l) x 1 (spanOf p) (spanOf q) → Arrived l list x q (rounds + 1)
     goes q t = rw (← shr-shr (countOf list l) rounds 1) (onward (keyOf list l) x (countOf list l) 1 _ _ a t)
 
-    -- by what is left of it the search knows how wide it is
-    pub resumes : (n : ℕ) → n ≡ countOf list l → (g : Going) → g ≡ going (spanOf p) (p .len) rounds → OnWay (keyOf list l) x n (going (g .left) (g .width) rounds)
-    resumes n e g f = rw (e, f) (record { rounds = a .rounds; inside = a .inside; middle = refl; least = le-refl _; most = omega arith })
+    -- at most one entry is left after them
+    at-end : Halved (countOf list l) rounds → p .len ≤ 1
+    at-end h = omega (arith, a .least, narrow _ rounds h)
 
-    -- at most one entry is left
     pub nearly : p .len ≤ 1 → (n : ℕ) → n ≡ countOf list l → (g : Going) → g ≡ going (spanOf p) (p .len) rounds → Below (keyOf list l) x n 2 g
-    nearly h n e g f = rw (e, f) (record { on = resumes _ refl _ refl; narrow = omega arith })
+    nearly h n e g f =
+        rw (e, f)
+        (record {
+          on = record { rounds = a .rounds; inside = a .inside; middle = refl; least = le-refl _; most = omega arith };
+          narrow = omega arith;
+        })
 
 -- four of them
-module _ (l : Layout) (la lb lc ld : List ℕ) (x : Keys) where
-  pub begins : (p : Rests) → p ≡ beginOf l la lb lc ld → Abreast l la lb lc ld x (restsOf (p .a) (p .b) (p .c) (p .d) (p .narrow) 0)
-  begins p e = rw e (record { a = off l la _; b = off l lb _; c = off l lc _; d = off l ld _; narrow = omega arith })
+module _ (l : Layout) (la lb lc ld : List ℕ) (x : Keys) (n : Counts) (counts : n ≡ countsOf l la lb lc ld) where
+  pub begins : (p : Rests) → p ≡ unprobedOf n → Abreast l la lb lc ld x (restsOf (p .a) (p .b) (p .c) (p .d)) 0
+  begins p e = rw (e, counts) (record { a = off l la _; b = off l lb _; c = off l lc _; d = off l ld _ })
 
-  module _ (p : Rests) (v : Abreast l la lb lc ld x p) where
-    wide : (n : ℕ) → fewest l la lb lc ld ≤ n → p .narrow ≤ n / 2 ^ p .rounds
-    wide n h = rw (v .narrow) (shr-mono (p .rounds) h)
+  -- how often each can be halved
+  halved : (k : ℕ) → Alike k n → Halved (countOf la l) k × Halved (countOf lb l) k × Halved (countOf lc l) k × Halved (countOf ld l) k
+  halved k h = let i = rw counts at h in (i .a, i .b, i .c, i .d)
 
+  module _ (k : ℕ) (h : Alike k n) (p : Rests) (rounds : ℕ) (v : Abreast l la lb lc ld x p rounds) where
     -- each can go a round more
-    pub may-go : 2 ≤ p .narrow → Ready (sizeOf l) (length la) (spanOf (p .a)) × Ready (sizeOf l) (length lb) (spanOf (p .b)) × Ready (sizeOf l) (length lc) (spanOf (p .c)) × Ready (sizeOf l) (length ld) (spanOf (p .d))
-    may-go h = (
-      may l la _ _ _ (v .a) (omega (arith, wide (countOf la l) (omega arith))),
-      may l lb _ _ _ (v .b) (omega (arith, wide (countOf lb l) (omega arith))),
-      may l lc _ _ _ (v .c) (omega (arith, wide (countOf lc l) (omega arith))),
-      may l ld _ _ _ (v .d) (omega (arith, wide (countOf ld l) (omega arith))),
+    pub may-go : rounds < k → Ready (sizeOf l) (length la) (spanOf (p .a)) × Ready (sizeOf l) (length lb) (spanOf (p .b)) × Ready (sizeOf l) (length lc) (spanOf (p .c)) × Ready (sizeOf l) (length ld) (spanOf (p .d))
+    may-go t = let i = halved k h in (
+      may l la _ _ _ (v .a) k (i .0) t,
+      may l lb _ _ _ (v .b) k (i .1) t,
+      may l lc _ _ _ (v .c) k (i .2) t,
+      may l ld _ _ _ (v .d) k (i .3) t,
     )
 
-    pub went : (qa qb qc qd : Rest) → Took (keyOf la l) (x .a) 1 (spanOf (p .a)) (spanOf qa) → Took (keyOf lb l) (x .b) 1 (spanOf (p .b)) (spanOf qb)
-        → Took (keyOf lc l) (x .c) 1 (spanOf (p .c)) (spanOf qc) → Took (keyOf ld l) (x .d) 1 (spanOf (p .d)) (spanOf qd)
-        → Abreast l la lb lc ld x (restsOf qa qb qc qd (p .narrow / 2) (p .rounds + 1))
-    went qa qb qc qd ta tb tc td =
-        record {
-          a = goes l la _ _ _ (v .a) qa ta;
-          b = goes l lb _ _ _ (v .b) qb tb;
-          c = goes l lc _ _ _ (v .c) qc tc;
-          d = goes l ld _ _ _ (v .d) qd td;
-          narrow = rw (← shr-shr (fewest l la lb lc ld) (p .rounds) 1, v .narrow) refl;
-        }
+  -- and has at most one entry left after the last
+  pub all-ended : (k : ℕ) → Alike k n → (p : Rests) → Abreast l la lb lc ld x p k
+      → Ending l la (x .a) (n .a) (p .a) k × Ending l lb (x .b) (n .b) (p .b) k × Ending l lc (x .c) (n .c) (p .c) k × Ending l ld (x .d) (n .d) (p .d) k
+  all-ended k h p v = let i = halved k h in (
+    (ap (λ (m : Counts). m .a) counts, v .a, at-end l la _ _ _ (v .a) (i .0)),
+    (ap (λ (m : Counts). m .b) counts, v .b, at-end l lb _ _ _ (v .b) (i .1)),
+    (ap (λ (m : Counts). m .c) counts, v .c, at-end l lc _ _ _ (v .c) (i .2)),
+    (ap (λ (m : Counts). m .d) counts, v .d, at-end l ld _ _ _ (v .d) (i .3)),
+  )
 
-    -- so many rounds can be counted
-    pub counted : length la < 2 ^ 64 → p .rounds ≤ 64
-    counted h = few (keyOf la l) (x .a) (countOf la l) _ (v .a) (omega (arith, less-inside l _ _ (all-inside l la)))
+pub went : (l : Layout) (la lb lc ld : List ℕ) (x : Keys) (p : Rests) (rounds : ℕ) → Abreast l la lb lc ld x p rounds → (q : Rests)
+    → Took (keyOf la l) (x .a) 1 (spanOf (p .a)) (spanOf (q .a)) → Took (keyOf lb l) (x .b) 1 (spanOf (p .b)) (spanOf (q .b))
+    → Took (keyOf lc l) (x .c) 1 (spanOf (p .c)) (spanOf (q .c)) → Took (keyOf ld l) (x .d) 1 (spanOf (p .d)) (spanOf (q .d))
+    → Abreast l la lb lc ld x q (rounds + 1)
+went l la lb lc ld x p rounds v q ta tb tc td =
+    record {
+      a = goes l la _ _ _ (v .a) (q .a) ta;
+      b = goes l lb _ _ _ (v .b) (q .b) tb;
+      c = goes l lc _ _ _ (v .c) (q .c) tc;
+      d = goes l ld _ _ _ (v .d) (q .d) td;
+    }
 
--- in one list all come to their last round at once
-pub together : (l : Layout) (list : List ℕ) (x : Keys) (p : Rests) → Abreast l list list list list x p → p .narrow < 2 → Within 1 p
-together l list x p v h =
-    let e : countOf list l / 2 ^ p .rounds ≡ p .narrow = ap (λ (n : ℕ). n / 2 ^ p .rounds) (omega arith) ∙ sym (v .narrow) in
-    record { a = omega (arith, v .a .least); b = omega (arith, v .b .least); c = omega (arith, v .c .least); d = omega (arith, v .d .least) }
+pub by-now : (l : Layout) (la lb lc ld : List ℕ) (x : Keys) (p : Rests) (j k : ℕ) → Abreast l la lb lc ld x p j → j ≤ k → k ≤ j → Abreast l la lb lc ld x p k
+by-now l la lb lc ld x p j k v h t = let e : j ≡ k = omega arith in rw e at v
+
+-- four lists whose shortest and longest can be halved as often
+pub alike : (k j few many : ℕ) (n : Counts) → k ≡ j → Halved few k → Halved many j
+    → (few ≤ n .a) × (few ≤ n .b) × (few ≤ n .c) × (few ≤ n .d) → (n .a ≤ many) × (n .b ≤ many) × (n .c ≤ many) × (n .d ≤ many) → Alike k n
+alike k j few many n e h t low high =
+    record {
+      a = between _ (low .0) (high .0);
+      b = between _ (low .1) (high .1);
+      c = between _ (low .2) (high .2);
+      d = between _ (low .3) (high .3);
+    }
+  where
+    between : (i : ℕ) → few ≤ i → i ≤ many → Halved i k
+    between i f m = let s = rw (← e) at t in record { fewer = omega (arith, s .fewer); enough = λ z. omega (arith, h .enough z) }
+
+-- in one list all four are alike
+pub together : (l : Layout) (list : List ℕ) (n : Counts) → n ≡ countsOf l list list list list → (k : ℕ) → Halved (n .a) k → Alike k n
+together l list n e k h = let one = rw e at h in rw e (record { a = one; b = one; c = one; d = one })
 
 pub each : {a b c d e f g h : Spot} → a ≡ e → b ≡ f → c ≡ g → d ≡ h → spotsOf a b c d ≡ spotsOf e f g h
 each p q r s = cc

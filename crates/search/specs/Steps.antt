@@ -1,6 +1,6 @@
 -- What the search's helpers promise. docs/FORMAT.md, 3.1 and 3.2, fix which entries are probed and how many; these probe the same ones.
 -- Assumes nothing.
-use Prim.Native.Nat.{ℕ, _+_, _*_, _/_, _^_, _≤_, _<_, min}
+use Prim.Native.Nat.{ℕ, suc, _+_, _*_, _/_, _^_, _≤_, _<_}
 use mathlib.Core.Path.{_≡_}
 use mathlib.Core.List.{List}
 use Rattle.search.specs.declared.Layout.{Layout}
@@ -8,6 +8,7 @@ use Rattle.search.specs.declared.Keys.{Keys}
 use Rattle.search.specs.declared.Span.{Span}
 use Rattle.search.specs.declared.four.Rest.{Rest}
 use Rattle.search.specs.declared.four.Rests.{Rests}
+use Rattle.search.specs.declared.four.Counts.{Counts}
 use Rattle.search.specs.declared.Going.{Going}
 use Rattle.search.specs.Search.{countOf, keyOf, more, run}
 
@@ -53,35 +54,43 @@ pub record Below (key : ℕ → ℕ) (x n bound : ℕ) (g : Going) : Type 0 wher
 abbrev pub spanOf : Rest → Span
 spanOf p = record { lo = p .lo; len = p .len; mid = p .lo + p .len / 2 }
 
-abbrev pub restsOf : Rest → Rest → Rest → Rest → ℕ → ℕ → Rests
-restsOf a b c d narrow rounds = record { a = a; b = b; c = c; d = d; narrow = narrow; rounds = rounds }
+abbrev pub restsOf : Rest → Rest → Rest → Rest → Rests
+restsOf a b c d = record { a = a; b = b; c = c; d = d }
 
--- of a list nothing was probed
-abbrev pub unprobed : Layout → List ℕ → Rest
-unprobed l list = record { lo = 0; len = countOf list l }
+-- how many entries four lists have
+abbrev pub countsOf : Layout → List ℕ → List ℕ → List ℕ → List ℕ → Counts
+countsOf l la lb lc ld = record { a = countOf la l; b = countOf lb l; c = countOf lc l; d = countOf ld l }
 
-abbrev pub fewest : Layout → List ℕ → List ℕ → List ℕ → List ℕ → ℕ
-fewest l la lb lc ld = min (min (countOf la l) (countOf lb l)) (min (countOf lc l) (countOf ld l))
+-- of n entries none was probed
+abbrev pub allOf : ℕ → Rest
+allOf n = record { lo = 0; len = n }
 
--- four searches as they set out
-abbrev pub beginOf : Layout → List ℕ → List ℕ → List ℕ → List ℕ → Rests
-beginOf l la lb lc ld = restsOf (unprobed l la) (unprobed l lb) (unprobed l lc) (unprobed l ld) (fewest l la lb lc ld) 0
+abbrev pub unprobedOf : Counts → Rests
+unprobedOf n = restsOf (allOf (n .a)) (allOf (n .b)) (allOf (n .c)) (allOf (n .d))
+
+-- halved k times, n entries are one or none, and not before
+pub record Halved (n k : ℕ) : Type 0 where
+  pub fewer : n < 2 ^ suc k
+  pub enough : 0 < k → 2 ^ k ≤ n
+
+-- so it is with each of four
+pub record Alike (k : ℕ) (n : Counts) : Type 0 where
+  pub a : Halved (n .a) k
+  pub b : Halved (n .b) k
+  pub c : Halved (n .c) k
+  pub d : Halved (n .d) k
 
 -- a search of a list after so many rounds: each halved its width
 abbrev pub Arrived : Layout → List ℕ → ℕ → Rest → ℕ → Type 0
 Arrived l list x p rounds = OnWay (keyOf list l) x (countOf list l) (going (spanOf p) (countOf list l / 2 ^ rounds) rounds)
 
--- four searches after as many rounds, and how wide that of the shortest list is
-pub record Abreast (l : Layout) (la lb lc ld : List ℕ) (x : Keys) (p : Rests) : Type 0 where
-  pub a : Arrived l la (x .a) (p .a) (p .rounds)
-  pub b : Arrived l lb (x .b) (p .b) (p .rounds)
-  pub c : Arrived l lc (x .c) (p .c) (p .rounds)
-  pub d : Arrived l ld (x .d) (p .d) (p .rounds)
-  pub narrow : p .narrow ≡ fewest l la lb lc ld / 2 ^ p .rounds
+-- and it has at most one entry left, of n
+abbrev pub Ending : Layout → List ℕ → ℕ → ℕ → Rest → ℕ → Type 0
+Ending l list x n p rounds = (n ≡ countOf list l) × Arrived l list x p rounds × (p .len ≤ 1)
 
--- none of the four has more entries left
-pub record Within (most : ℕ) (p : Rests) : Type 0 where
-  pub a : p .a .len ≤ most
-  pub b : p .b .len ≤ most
-  pub c : p .c .len ≤ most
-  pub d : p .d .len ≤ most
+-- four searches after as many rounds
+pub record Abreast (l : Layout) (la lb lc ld : List ℕ) (x : Keys) (p : Rests) (rounds : ℕ) : Type 0 where
+  pub a : Arrived l la (x .a) (p .a) rounds
+  pub b : Arrived l lb (x .b) (p .b) rounds
+  pub c : Arrived l lc (x .c) (p .c) rounds
+  pub d : Arrived l ld (x .d) (p .d) rounds

@@ -1,15 +1,16 @@
 // Four searches side by side: for speed, as no round waits for another's.
 ghost use mathlib.Core.Path.{_≡_};
-ghost use Prim.Native.Nat.{_+_, _≤_, _<_, min};
+ghost use Prim.Native.Nat.{_+_, _≤_, _<_};
 ghost use lib.ListN.{length};
 ghost use Rattle.search.specs.Search.{sizeOf, countOf, keyOf, searchOf, spotsIn};
-ghost use Rattle.search.specs.Steps.{Ready, Took, going, spanOf, Arrived, Abreast, Within, beginOf};
+ghost use Rattle.search.specs.Steps.{Ready, Took, going, spanOf, countsOf, unprobedOf, Halved, Alike, Ending, Abreast};
 use crate::Going;
 use crate::Keys;
 use crate::Layout;
 use crate::Span;
 use crate::Spot;
 use crate::Spots;
+use crate::all_of;
 use crate::by_one;
 use crate::by_two;
 use crate::count_of;
@@ -23,18 +24,35 @@ struct Rest {
     pub len: usize,
 }
 
-// Four such after so many rounds each; `narrow` is how wide the search of the shortest list is.
+// Four such.
 struct Rests {
     pub a: Rest,
     pub b: Rest,
     pub c: Rest,
     pub d: Rest,
-    pub narrow: usize,
-    pub rounds: usize,
+}
+
+// How many entries four lists have.
+struct Counts {
+    pub a: usize,
+    pub b: usize,
+    pub c: usize,
+    pub d: usize,
+}
+
+fn count_all(layout: Layout, la: &[u8], lb: &[u8], lc: &[u8], ld: &[u8]) -> Counts
+    ensures { λ r. ⌜ r ≡ countsOf layout (now (la .entry)) (now (lb .entry)) (now (lc .entry)) (now (ld .entry)) ⌝ }
+{
+    Counts {
+        a: count_of(la, layout),
+        b: count_of(lb, layout),
+        c: count_of(lc, layout),
+        d: count_of(ld, layout),
+    }
 }
 
 fn fewer(a: usize, b: usize) -> usize
-    ensures { λ r. ⌜ r ≡ min a b ⌝ }
+    ensures { λ r. ⌜ (r ≤ a) × (r ≤ b) ⌝ }
 {
     if a < b { a } else { b }
 }
@@ -43,6 +61,28 @@ fn more(a: usize, b: usize) -> usize
     ensures { λ r. ⌜ (a ≤ r) × (b ≤ r) ⌝ }
 {
     if a < b { b } else { a }
+}
+
+fn fewest(n: Counts) -> usize
+    ensures { λ r. ⌜ (r ≤ n .a) × (r ≤ n .b) × (r ≤ n .c) × (r ≤ n .d) ⌝ }
+{
+    fewer(fewer(n.a, n.b), fewer(n.c, n.d))
+}
+
+fn most(n: Counts) -> usize
+    ensures { λ r. ⌜ (n .a ≤ r) × (n .b ≤ r) × (n .c ≤ r) × (n .d ≤ r) ⌝ }
+{
+    more(more(n.a, n.b), more(n.c, n.d))
+}
+
+// How often so many entries can be halved until one is left, or none.
+fn halvings(n: usize) -> usize
+    ensures { λ r. ⌜ Halved n r ⌝ }
+{
+    if n == 0 {
+        return 0;
+    }
+    (63 - u64::leading_zeros(n as u64)) as usize
 }
 
 // One round. It waits longer for its key than that of a search alone, and has less to do.
@@ -60,107 +100,101 @@ fn halve(list: &[u8], layout: Layout, x: u32, p: Rest) -> Rest
     }
 }
 
-fn begin(layout: Layout, la: &[u8], lb: &[u8], lc: &[u8], ld: &[u8]) -> Rests
-    ensures { λ r. ⌜ r ≡ beginOf layout (now (la .entry)) (now (lb .entry)) (now (lc .entry)) (now (ld .entry)) ⌝ }
+fn unprobed(n: Counts) -> Rests
+    ensures { λ r. ⌜ r ≡ unprobedOf n ⌝ }
 {
-    let na = count_of(la, layout);
-    let nb = count_of(lb, layout);
-    let nc = count_of(lc, layout);
-    let nd = count_of(ld, layout);
     Rests {
-        a: Rest { lo: 0, len: na },
-        b: Rest { lo: 0, len: nb },
-        c: Rest { lo: 0, len: nc },
-        d: Rest { lo: 0, len: nd },
-        narrow: fewer(fewer(na, nb), fewer(nc, nd)),
-        rounds: 0,
+        a: Rest { lo: 0, len: n.a },
+        b: Rest { lo: 0, len: n.b },
+        c: Rest { lo: 0, len: n.c },
+        d: Rest { lo: 0, len: n.d },
     }
 }
 
-// As long as each search has entries to probe. Written out for each layout: a function with one caller is laid into it, and only then does
-// the compiler know the layout in every round.
-fn down_pages(la: &[u8], lb: &[u8], lc: &[u8], ld: &[u8], x: Keys, from: Rests) -> Rests
-    requires { ⌜ from ≡ beginOf Layout.Pages (now la) (now lb) (now lc) (now ld) ⌝ }
-    ensures { λ r. ⌜ Abreast Layout.Pages (now (la .entry)) (now (lb .entry)) (now (lc .entry)) (now (ld .entry)) x r × (r .narrow < 2) ⌝ }
+// So many rounds of each search. Written out for each layout: a function with one caller is laid into it, and only then
+// does the compiler know the layout in every round.
+fn down_pages(
+    la: &[u8],
+    lb: &[u8],
+    lc: &[u8],
+    ld: &[u8],
+    x: Keys,
+    n: Counts,
+    rounds: usize,
+) -> Rests
+    requires { ⌜ (n ≡ countsOf Layout.Pages (now la) (now lb) (now lc) (now ld)) × Alike rounds n ⌝ }
+    ensures { λ r. ⌜ Abreast Layout.Pages (now (la .entry)) (now (lb .entry)) (now (lc .entry)) (now (ld .entry)) x r rounds ⌝ }
 {
+    let from = unprobed(n);
     let mut a = from.a;
     let mut b = from.b;
     let mut c = from.c;
     let mut d = from.d;
-    let mut narrow = from.narrow;
-    let mut rounds: usize = 0;
-    while narrow >= 2 {
+    let mut gone: usize = 0;
+    while gone < rounds {
         a = halve(la, Layout::Pages, x.a, a);
         b = halve(lb, Layout::Pages, x.b, b);
         c = halve(lc, Layout::Pages, x.c, c);
         d = halve(ld, Layout::Pages, x.d, d);
-        narrow = narrow / 2;
-        rounds += 1;
+        gone += 1;
     }
-    Rests {
-        a,
-        b,
-        c,
-        d,
-        narrow,
-        rounds,
-    }
+    Rests { a, b, c, d }
 }
 
-fn down_regular(la: &[u8], lb: &[u8], lc: &[u8], ld: &[u8], x: Keys, from: Rests) -> Rests
-    requires { ⌜ from ≡ beginOf Layout.Regular (now la) (now lb) (now lc) (now ld) ⌝ }
-    ensures { λ r. ⌜ Abreast Layout.Regular (now (la .entry)) (now (lb .entry)) (now (lc .entry)) (now (ld .entry)) x r × (r .narrow < 2) ⌝ }
+fn down_regular(
+    la: &[u8],
+    lb: &[u8],
+    lc: &[u8],
+    ld: &[u8],
+    x: Keys,
+    n: Counts,
+    rounds: usize,
+) -> Rests
+    requires { ⌜ (n ≡ countsOf Layout.Regular (now la) (now lb) (now lc) (now ld)) × Alike rounds n ⌝ }
+    ensures { λ r. ⌜ Abreast Layout.Regular (now (la .entry)) (now (lb .entry)) (now (lc .entry)) (now (ld .entry)) x r rounds ⌝ }
 {
+    let from = unprobed(n);
     let mut a = from.a;
     let mut b = from.b;
     let mut c = from.c;
     let mut d = from.d;
-    let mut narrow = from.narrow;
-    let mut rounds: usize = 0;
-    while narrow >= 2 {
+    let mut gone: usize = 0;
+    while gone < rounds {
         a = halve(la, Layout::Regular, x.a, a);
         b = halve(lb, Layout::Regular, x.b, b);
         c = halve(lc, Layout::Regular, x.c, c);
         d = halve(ld, Layout::Regular, x.d, d);
-        narrow = narrow / 2;
-        rounds += 1;
+        gone += 1;
     }
-    Rests {
-        a,
-        b,
-        c,
-        d,
-        narrow,
-        rounds,
-    }
+    Rests { a, b, c, d }
 }
 
-fn down_compressed(la: &[u8], lb: &[u8], lc: &[u8], ld: &[u8], x: Keys, from: Rests) -> Rests
-    requires { ⌜ from ≡ beginOf Layout.Compressed (now la) (now lb) (now lc) (now ld) ⌝ }
-    ensures { λ r. ⌜ Abreast Layout.Compressed (now (la .entry)) (now (lb .entry)) (now (lc .entry)) (now (ld .entry)) x r × (r .narrow < 2) ⌝ }
+fn down_compressed(
+    la: &[u8],
+    lb: &[u8],
+    lc: &[u8],
+    ld: &[u8],
+    x: Keys,
+    n: Counts,
+    rounds: usize,
+) -> Rests
+    requires { ⌜ (n ≡ countsOf Layout.Compressed (now la) (now lb) (now lc) (now ld)) × Alike rounds n ⌝ }
+    ensures { λ r. ⌜ Abreast Layout.Compressed (now (la .entry)) (now (lb .entry)) (now (lc .entry)) (now (ld .entry)) x r rounds ⌝ }
 {
+    let from = unprobed(n);
     let mut a = from.a;
     let mut b = from.b;
     let mut c = from.c;
     let mut d = from.d;
-    let mut narrow = from.narrow;
-    let mut rounds: usize = 0;
-    while narrow >= 2 {
+    let mut gone: usize = 0;
+    while gone < rounds {
         a = halve(la, Layout::Compressed, x.a, a);
         b = halve(lb, Layout::Compressed, x.b, b);
         c = halve(lc, Layout::Compressed, x.c, c);
         d = halve(ld, Layout::Compressed, x.d, d);
-        narrow = narrow / 2;
-        rounds += 1;
+        gone += 1;
     }
-    Rests {
-        a,
-        b,
-        c,
-        d,
-        narrow,
-        rounds,
-    }
+    Rests { a, b, c, d }
 }
 
 // The search on its way again.
@@ -183,103 +217,79 @@ fn going_on(p: Rest, rounds: usize) -> Going
 
 // Where it ends, with at most one entry left.
 fn ended(list: &[u8], layout: Layout, n: usize, x: u32, p: Rest, rounds: usize) -> Spot
-    requires { ⌜ (n ≡ countOf (now list) layout) × Arrived layout (now list) x p rounds × (p .len ≤ 1) ⌝ }
+    requires { ⌜ Ending layout (now list) x n p rounds ⌝ }
     ensures { λ r. ⌜ r ≡ searchOf (now (list .entry)) layout x ⌝ }
 {
     last(list, layout, n, x, going_on(p, rounds))
 }
 
-// The rest of a search that has others no more beside it.
-fn alone(layout: Layout, list: &[u8], x: u32, p: Rest, rounds: usize) -> Spot
-    requires { ⌜ Arrived layout (now list) x p rounds ⌝ }
+// A search with no others beside it.
+fn alone(layout: Layout, list: &[u8], x: u32) -> Spot
     ensures { λ r. ⌜ r ≡ searchOf (now (list .entry)) layout x ⌝ }
 {
     let n = count_of(list, layout);
-    let f = going_on(p, rounds);
-    let g = by_two(list, layout, n, x, f.left, f.width, rounds);
+    let g = by_two(list, layout, n, x, all_of(n), n, 0);
     let h = by_one(list, layout, n, x, g);
     last(list, layout, n, x, h)
 }
 
-fn alone_all(layout: Layout, la: &[u8], lb: &[u8], lc: &[u8], ld: &[u8], x: Keys, p: Rests) -> Spots
-    requires { ⌜ Abreast layout (now la) (now lb) (now lc) (now ld) x p ⌝ }
+fn alone_all(layout: Layout, la: &[u8], lb: &[u8], lc: &[u8], ld: &[u8], x: Keys) -> Spots
     ensures { λ r. ⌜ r ≡ spotsIn layout (now (la .entry)) (now (lb .entry)) (now (lc .entry)) (now (ld .entry)) x ⌝ }
 {
-    let rounds = p.rounds;
     Spots {
-        a: alone(layout, la, x.a, p.a, rounds),
-        b: alone(layout, lb, x.b, p.b, rounds),
-        c: alone(layout, lc, x.c, p.c, rounds),
-        d: alone(layout, ld, x.d, p.d, rounds),
+        a: alone(layout, la, x.a),
+        b: alone(layout, lb, x.b),
+        c: alone(layout, lc, x.c),
+        d: alone(layout, ld, x.d),
     }
-}
-
-// The most entries that one of the four has left.
-fn widest(p: Rests) -> usize
-    ensures { λ r. ⌜ Within r p ⌝ }
-{
-    more(more(p.a.len, p.b.len), more(p.c.len, p.d.len))
 }
 
 // In one list, so that all four come to their last round at once.
 pub fn search_pages(list: &[u8], x: Keys) -> Spots
     ensures { λ r. ⌜ r ≡ spotsIn Layout.Pages (now (list .entry)) (now (list .entry)) (now (list .entry)) (now (list .entry)) x ⌝ }
 {
-    let p = down_pages(
-        list,
-        list,
-        list,
-        list,
-        x,
-        begin(Layout::Pages, list, list, list, list),
-    );
-    let rounds = p.rounds;
-    let n = count_of(list, Layout::Pages);
+    let n = count_all(Layout::Pages, list, list, list, list);
+    let rounds = halvings(n.a);
+    let p = down_pages(list, list, list, list, x, n, rounds);
     Spots {
-        a: ended(list, Layout::Pages, n, x.a, p.a, rounds),
-        b: ended(list, Layout::Pages, n, x.b, p.b, rounds),
-        c: ended(list, Layout::Pages, n, x.c, p.c, rounds),
-        d: ended(list, Layout::Pages, n, x.d, p.d, rounds),
+        a: ended(list, Layout::Pages, n.a, x.a, p.a, rounds),
+        b: ended(list, Layout::Pages, n.b, x.b, p.b, rounds),
+        c: ended(list, Layout::Pages, n.c, x.c, p.c, rounds),
+        d: ended(list, Layout::Pages, n.d, x.d, p.d, rounds),
     }
 }
 
-// Each in its own list. Lists of very different lengths part before their last rounds.
+// Each in its own list. Where these can be halved so often and so often, each is searched alone.
 pub fn search_regular(la: &[u8], lb: &[u8], lc: &[u8], ld: &[u8], x: Keys) -> Spots
     ensures { λ r. ⌜ r ≡ spotsIn Layout.Regular (now (la .entry)) (now (lb .entry)) (now (lc .entry)) (now (ld .entry)) x ⌝ }
 {
-    let p = down_regular(la, lb, lc, ld, x, begin(Layout::Regular, la, lb, lc, ld));
-    if widest(p) >= 2 {
-        return alone_all(Layout::Regular, la, lb, lc, ld, x, p);
+    let n = count_all(Layout::Regular, la, lb, lc, ld);
+    let rounds = halvings(fewest(n));
+    if rounds != halvings(most(n)) {
+        return alone_all(Layout::Regular, la, lb, lc, ld, x);
     }
-    let rounds = p.rounds;
-    let na = count_of(la, Layout::Regular);
-    let nb = count_of(lb, Layout::Regular);
-    let nc = count_of(lc, Layout::Regular);
-    let nd = count_of(ld, Layout::Regular);
+    let p = down_regular(la, lb, lc, ld, x, n, rounds);
     Spots {
-        a: ended(la, Layout::Regular, na, x.a, p.a, rounds),
-        b: ended(lb, Layout::Regular, nb, x.b, p.b, rounds),
-        c: ended(lc, Layout::Regular, nc, x.c, p.c, rounds),
-        d: ended(ld, Layout::Regular, nd, x.d, p.d, rounds),
+        a: ended(la, Layout::Regular, n.a, x.a, p.a, rounds),
+        b: ended(lb, Layout::Regular, n.b, x.b, p.b, rounds),
+        c: ended(lc, Layout::Regular, n.c, x.c, p.c, rounds),
+        d: ended(ld, Layout::Regular, n.d, x.d, p.d, rounds),
     }
 }
 
 pub fn search_compressed(la: &[u8], lb: &[u8], lc: &[u8], ld: &[u8], x: Keys) -> Spots
     ensures { λ r. ⌜ r ≡ spotsIn Layout.Compressed (now (la .entry)) (now (lb .entry)) (now (lc .entry)) (now (ld .entry)) x ⌝ }
 {
-    let p = down_compressed(la, lb, lc, ld, x, begin(Layout::Compressed, la, lb, lc, ld));
-    if widest(p) >= 2 {
-        return alone_all(Layout::Compressed, la, lb, lc, ld, x, p);
+    let n = count_all(Layout::Compressed, la, lb, lc, ld);
+    let rounds = halvings(fewest(n));
+    if rounds != halvings(most(n)) {
+        return alone_all(Layout::Compressed, la, lb, lc, ld, x);
     }
-    let rounds = p.rounds;
-    let na = count_of(la, Layout::Compressed);
-    let nb = count_of(lb, Layout::Compressed);
-    let nc = count_of(lc, Layout::Compressed);
-    let nd = count_of(ld, Layout::Compressed);
+    let p = down_compressed(la, lb, lc, ld, x, n, rounds);
     Spots {
-        a: ended(la, Layout::Compressed, na, x.a, p.a, rounds),
-        b: ended(lb, Layout::Compressed, nb, x.b, p.b, rounds),
-        c: ended(lc, Layout::Compressed, nc, x.c, p.c, rounds),
-        d: ended(ld, Layout::Compressed, nd, x.d, p.d, rounds),
+        a: ended(la, Layout::Compressed, n.a, x.a, p.a, rounds),
+        b: ended(lb, Layout::Compressed, n.b, x.b, p.b, rounds),
+        c: ended(lc, Layout::Compressed, n.c, x.c, p.c, rounds),
+        d: ended(ld, Layout::Compressed, n.d, x.d, p.d, rounds),
     }
 }

@@ -140,7 +140,7 @@ fn step(list: &[u8], layout: Layout, x: u32, p: Span) -> Span
 }
 
 // n entries, of which none was probed.
-fn all_of(n: usize) -> Span
+pub(crate) fn all_of(n: usize) -> Span
     ensures { λ r. ⌜ r ≡ whole n ⌝ }
 {
     Span {
