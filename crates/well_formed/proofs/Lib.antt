@@ -8,3 +8,4 @@ pub mod Tiling
 pub mod Questions
 pub mod Examples
 pub mod Refusals
+pub mod ByPlace
