@@ -287,8 +287,9 @@ went l la lb lc ld x p rounds v q ta tb tc td =
       d = goes l ld _ _ _ (v .d) (q .d) td;
     }
 
-pub by-now : (l : Layout) (la lb lc ld : List ℕ) (x : Keys) (p : Rests) (j k : ℕ) → Abreast l la lb lc ld x p j → j ≤ k → k ≤ j → Abreast l la lb lc ld x p k
-by-now l la lb lc ld x p j k v h t = let e : j ≡ k = omega arith in rw e at v
+-- after the last of k rounds
+pub all-gone : (l : Layout) (la lb lc ld : List ℕ) (x : Keys) (p : Rests) (j k : ℕ) → Abreast l la lb lc ld x p j → j ≤ k → k ≤ j → Abreast l la lb lc ld x p k
+all-gone l la lb lc ld x p j k v h t = let e : j ≡ k = omega arith in rw e at v
 
 -- four lists whose shortest and longest can be halved as often
 pub alike : (k j few many : ℕ) (n : Counts) → k ≡ j → Halved few k → Halved many j
