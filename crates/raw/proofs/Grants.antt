@@ -5,6 +5,8 @@ use mathlib.Core.Path.{_≡_, refl, ap, sym, _∙_}
 use mathlib.Core.List.{List}
 use mathlib.Core.Bool.{Bool, true, false}
 use native.Mathlib.Omega.{arith}
+use borrow.Author.Tests.{eq-eqb, ne-eqb, eqb-true}
+use lib.Dec.{eqb}
 use lib.ListN.{length}
 use Rattle.reader.specs.Reader.{grantedOf, wordAt}
 use Rattle.reader.proofs.Laws.{fits, length-part}
@@ -12,7 +14,7 @@ use Rattle.raw.specs.declared.Lists.{Lists}
 use Rattle.raw.specs.declared.Parsed.{Parsed}
 use Rattle.raw.specs.declared.Error.{Error}
 use Rattle.raw.specs.Checked.{Checked, good, refused, _>>=_, _>>_, either, check, numberOf}
-use Rattle.raw.specs.Raw.{grantOf, headerOf, parseOf, pagesOf, listsTold}
+use Rattle.raw.specs.Raw.{grantOf, versionOf, headerOf, parseOf, pagesOf, listsTold}
 
 module _ (s : List ℕ) where
   module _ (l : Lists) where
@@ -57,22 +59,34 @@ module _ (s : List ℕ) where
   unfolding parseOf
   no-header t = simp t
 
-  pub header-read : (w : Checked Lists) (a g b n : ℕ) → grantedOf 28 s 0 ≡ true
+  pub other-version : (v : ℕ) → grantedOf 28 s 0 ≡ true → v ≡ wordAt 4 s 0 → (v ≡ 1 → ⊥) → refused 15 ≡ parseOf s
+  unfolding parseOf versionOf
+  other-version v t ev h = simp (t, sym ev, ne-eqb v 1 h)
+
+  pub header-read : (w : Checked Lists) (v a g b n : ℕ) → grantedOf 28 s 0 ≡ true → v ≡ wordAt 4 s 0 → v ≡ 1
       → a ≡ wordAt 4 s 4 → g ≡ wordAt 4 s 8 → b ≡ wordAt 4 s 20 → n ≡ wordAt 4 s 24
       → w ≡ grantOf s (record { «global_opcodes_offset» = a; «global_opcodes_len» = g; «pages_offset» = b; «pages_len» = n }) → w ≡ parseOf s
-  unfolding parseOf headerOf
-  header-read w a g b n t ea eg eb en e = e ∙ simp (t, sym ea, sym eg, sym eb, sym en)
+  unfolding parseOf versionOf headerOf
+  header-read w v a g b n t ev h ea eg eb en e = e ∙ simp (t, sym ev, eq-eqb v 1 h, sym ea, sym eg, sym eb, sym en)
 
-  -- after a parse the lists are granted
-  pub parsed : (l : Lists) → parseOf s ≡ good l → grantOf s l ≡ good l
+  -- after a parse the version is 1, and the lists are granted
+  passed : (l : Lists) → parseOf s ≡ good l → (versionOf s ≡ 1) × (grantOf s l ≡ good l)
   unfolding parseOf
-  parsed l e = by-test (grantedOf 28 s 0) e
+  passed l e = by-tests (grantedOf 28 s 0) (eqb (versionOf s) 1) refl e
     where
-      by-test : (b : Bool) → (_>>_ (check 1 b) (grantOf s (headerOf s))) ≡ good l → grantOf s l ≡ good l
-      by-test true r =
+      by-tests : (b d : Bool) → eqb (versionOf s) 1 ≡ d → (_>>_ (check 1 b) (_>>_ (check 15 d) (grantOf s (headerOf s)))) ≡ good l
+          → (versionOf s ≡ 1) × (grantOf s l ≡ good l)
+      by-tests true true q r =
           let same = granted (headerOf s) l r .0 in
-          rw (← same) at r
-      by-test false r = absurd (let z : _≡_ {A = ℕ} 0 1 = cc in omega arith)
+          (eqb-true _ _ q, rw (← same) at r)
+      by-tests true false q r = absurd (let z : _≡_ {A = ℕ} 0 1 = cc in omega arith)
+      by-tests false d q r = absurd (let z : _≡_ {A = ℕ} 0 1 = cc in omega arith)
+
+  pub version-1 : (l : Lists) → parseOf s ≡ good l → versionOf s ≡ 1
+  version-1 l e = passed l e .0
+
+  pub parsed : (l : Lists) → parseOf s ≡ good l → grantOf s l ≡ good l
+  parsed l e = passed l e .1
 
 -- a call on lists: what it answers where they are refused, and where they are there
 module _ {B : Type 0} (otherwise : ℕ → B) (f : Lists → B) where

@@ -1,3 +1,4 @@
 pub mod Grants
 pub mod Opens
 pub mod One
+pub mod Numbers

@@ -27,7 +27,8 @@ errorOf k =
     (cond (eqb k 10) Error.CompressedPageFunctions
     (cond (eqb k 11) Error.LocalOpcodes
     (cond (eqb k 12) Error.InvalidPageEntryFirstAddress
-    (cond (eqb k 13) Error.AddressTooLarge Error.LocalIndex))))))))))))
+    (cond (eqb k 13) Error.AddressTooLarge
+    (cond (eqb k 14) Error.LocalIndex Error.WrongVersion)))))))))))))
 
 pub error-back : LeftInverse errorOf numberOf
 error-back Error.Header = refl
@@ -44,6 +45,7 @@ error-back Error.LocalOpcodes = refl
 error-back Error.InvalidPageEntryFirstAddress = refl
 error-back Error.AddressTooLarge = refl
 error-back Error.LocalIndex = refl
+error-back Error.WrongVersion = refl
 
 -- the answer that an enum of two cases gives for what was told
 abbrev pub answerFor : {A B : Type 0} → (A → B) → (Error → B) → Checked A → B

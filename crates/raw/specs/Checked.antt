@@ -43,3 +43,4 @@ numberOf Error.LocalOpcodes = 11
 numberOf Error.InvalidPageEntryFirstAddress = 12
 numberOf Error.AddressTooLarge = 13
 numberOf Error.LocalIndex = 14
+numberOf Error.WrongVersion = 15

@@ -23,14 +23,19 @@ grantOf s l = do
   check 3 (grantedOf (12 * l .«pages_len») s (l .«pages_offset»))
   good l
 
--- 2.1: the lists that the header names: version, then offset and count of global opcodes, of personalities, of pages
+-- 2.1: what the header names: version, then offset and count of global opcodes, of personalities, of pages
+unfoldable pub versionOf : List ℕ → ℕ
+versionOf s = wordAt 4 s 0
+
 unfoldable pub headerOf : List ℕ → Lists
 headerOf s =
     record { «global_opcodes_offset» = wordAt 4 s 4; «global_opcodes_len» = wordAt 4 s 8; «pages_offset» = wordAt 4 s 20; «pages_len» = wordAt 4 s 24 }
 
+-- 2.1: version 1 alone is read
 unfoldable pub parseOf : List ℕ → Checked Lists
 parseOf s = do
   check 1 (grantedOf 28 s 0)
+  check 15 (eqb (versionOf s) 1)
   grantOf s (headerOf s)
 
 -- the bytes of the two lists

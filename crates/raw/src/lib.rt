@@ -8,6 +8,9 @@ ghost use Rattle.raw.specs.Raw.{grantOf, headerOf, parseOf, globalsOf, p
 use reader::Read32;
 use search::Layout;
 
+// The one version of the format that is read.
+pub const UNWIND_SECTION_VERSION: u32 = 1;
+
 pub const PAGE_KIND_SENTINEL: u32 = 1;
 
 pub const PAGE_KIND_REGULAR: u32 = 2;
@@ -30,6 +33,7 @@ pub enum Error {
     InvalidPageEntryFirstAddress,
     AddressTooLarge,
     LocalIndex,
+    WrongVersion,
 }
 
 impl Error {
@@ -52,6 +56,7 @@ impl Error {
             Error::InvalidPageEntryFirstAddress => 12,
             Error::AddressTooLarge => 13,
             Error::LocalIndex => 14,
+            Error::WrongVersion => 15,
         }
     }
 }
@@ -114,12 +119,15 @@ pub fn grant(s: &[u8], lists: Lists) -> Parsed
     Parsed::Whole(lists)
 }
 
-// The lists that the section's header names.
+// The lists that the section's header names, if its version is the one that is read.
 pub fn parse(s: &[u8]) -> Parsed
     ensures { λ r. ⌜ listsTold r ≡ parseOf (now (s .entry)) ⌝ }
 {
     if !reader::is_granted(s, 0, 28) {
         return Parsed::Refused(Error::Header);
+    }
+    if reader::u32_or_0(s, 0) != UNWIND_SECTION_VERSION {
+        return Parsed::Refused(Error::WrongVersion);
     }
     grant(
         s,

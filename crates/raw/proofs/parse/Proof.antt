@@ -1,9 +1,9 @@
--- `raw::parse` meets its contract: without a header it is refused, else its lists are granted or not.
+-- `raw::parse` meets its contract: without a header, or with another version, it is refused; else its lists are granted or not.
 -- Assumes nothing.
 use borrow.Author.Needs.{needs}
 use mathlib.Core.Path.{sym, _∙_}
 use borrow.Author.Tests.{not-true, not-false}
-use Rattle.raw.proofs.Grants.{no-header, header-read}
+use Rattle.raw.proofs.Grants.{no-header, other-version, header-read}
 use Rattle.raw.proofs.parse.Statement.{statement}
 use Rattle.raw.proofs.parse.Tie as tie
 
@@ -12,9 +12,28 @@ returns c = no-header _ (sym (c .before .is-granted .ensures) ∙ not-true _ (c 
 
 returns-2 : tie.Need-returns-2
 returns-2 c =
-    header-read _ _ _ _ _ _ (sym (c .before .before .before .before .before .before .is-granted .ensures) ∙ not-false _ (c .before .before .before .before .before .if1 .left)) (c .before .before .before .before .u32-or-0 .ensures) (c .before .before .before .u32-or-02 .ensures) (c .before .before .u32-or-03 .ensures) (c .before .u32-or-04 .ensures) (c .grant .ensures)
+    other-version _ _ (sym (c .before .before .before .is-granted .ensures) ∙ not-false _ (c .before .before .if1 .left)) (c .before .u32-or-0 .ensures) (c .if2 .taken)
+
+returns-3 : tie.Need-returns-3
+returns-3 c =
+    let has = c .before .before .before .before .before in
+    let header = has .before .before in
+    header-read _ _ _ _ _ _ _
+    (sym (header .before .is-granted .ensures) ∙ not-false _ (header .if1 .left)) (has .before .u32-or-0 .ensures) (has .if2 .left)
+    (c .before .before .before .before .u32-or-02 .ensures) (c .before .before .before .u32-or-03 .ensures) (c .before .before .u32-or-04 .ensures) (c .before .u32-or-05 .ensures)
+    (c .grant .ensures)
 
 pub parse-spec : {M : Type 1} → statement M
 parse-spec =
     tie.close
-    (tie.spec (λ c κs. search needs) returns (λ c κs. search needs) (λ c κs. search needs) (λ c κs. search needs) (λ c κs. search needs) (λ c κs. search needs) returns-2)
+    (tie.spec
+    (λ c κs. search needs)
+    returns
+    (λ c κs. search needs)
+    returns-2
+    (λ c κs. search needs)
+    (λ c κs. search needs)
+    (λ c κs. search needs)
+    (λ c κs. search needs)
+    (λ c κs. search needs)
+    returns-3)
