@@ -19,7 +19,7 @@ use lookup::Found;
 use raw::Lists;
 use raw::Parsed;
 
-// refusal is 0, or 1, 2 or 3 with every other number 0.
+// refusal is 0, or 1, 15, 2 or 3 with every other number 0.
 #[repr(C)]
 pub struct ParseAnswer {
     pub refusal: u32,
@@ -59,7 +59,7 @@ pub struct NextAnswer {
     pub refusal: u16,
 }
 
-// outcome is 0 for the end, 1 where the list is full, 2 for a refusal with its number; 1 to 3 are refused whatever the room.
+// outcome is 0 for the end, 1 where the list is full, 2 for a refusal with its number; 1, 15, 2 and 3 are refused whatever the room.
 #[repr(C)]
 pub struct FillAnswer {
     pub functions: usize,

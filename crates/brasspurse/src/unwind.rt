@@ -8,7 +8,7 @@ ghost use Rattle.brasspurse.specs.Unwinds.{unwindX86Answer, unwindArm64A
 use step::arm64::RegistersArm64;
 use step::x86_64::RegistersX86_64;
 
-// refusal is 0, or the lookup's 1 to 14, or the step's 20 to 27, 20 also where no function is found; then the registers are as they were.
+// refusal is 0, or the lookup's 1 to 15, or the step's 20 to 27, 20 also where no function is found; then the registers are as they were.
 // value is DWARF's 24 bits for 21, the kind for 22, else 0. probes: the entries that the lookup probed.
 #[repr(C)]
 pub struct UnwindX86_64Answer {

@@ -4,3 +4,4 @@ pub mod Block
 pub mod Left
 pub mod One
 pub mod Together
+pub mod Numbers

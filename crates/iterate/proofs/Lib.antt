@@ -4,3 +4,4 @@ pub mod Loop
 pub mod Cases
 pub mod One
 pub mod Left
+pub mod Numbers

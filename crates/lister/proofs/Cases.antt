@@ -13,7 +13,8 @@ use lib.Seq.{length-take-le}
 use Rattle.raw.specs.declared.Lists.{Lists}
 use Rattle.raw.specs.declared.Error.{Error}
 use Rattle.raw.specs.Checked.{Checked, good, refused, _>>_, check, numberOf}
-use Rattle.raw.specs.Raw.{parseOf}
+use Rattle.raw.specs.Raw.{versionOf, parseOf}
+use Rattle.raw.proofs.Numbers.{said-15, number-of}
 use Rattle.listing.specs.Listing.{linesOf, refusedOf, endOf, Told, written, over, wholeOf, linesIn}
 use Rattle.fill.specs.declared.Filled.{Filled}
 use Rattle.fill.specs.declared.Stop.{Stop}
@@ -21,7 +22,7 @@ use Rattle.fill.specs.Fill.{Why, full, ended, refusal, Taken, takenOf, numbersO
 use Rattle.fill.proofs.Left.{few, told}
 use Rattle.lister.specs.declared.Place.{Place}
 use Rattle.lister.specs.declared.Accepted.{Accepted}
-use Rattle.lister.specs.Lister.{acceptedOf, answersText}
+use Rattle.lister.specs.Lister.{acceptedOf, answersText, listingOf}
 use Rattle.lister.specs.Block.{placeAt, Outcome, put, roomIn, counted, stopText, isEnd, takenBlock, refusedBlock, blockOf, acceptedTold}
 use Rattle.lister.proofs.Texts.{fits-whole, length-end, length-refused, length-functions, lines-are, bytes-of, starts-inside, fewer-bytes, behind}
 
@@ -46,27 +47,10 @@ pub nothing-written : (out : List ℕ) → written 0 out ≡ wholeOf [] out
 unfolding over
 nothing-written out = sym (fits-whole [] out (omega arith))
 
--- a section's refusals have two digits at most
-two-digits : (e : Error) → numberOf e < 100
-two-digits Error.Header = omega arith
-two-digits Error.GlobalOpcodes = omega arith
-two-digits Error.Pages = omega arith
-two-digits Error.PageKind = omega arith
-two-digits Error.UnexpectedSentinelPage = omega arith
-two-digits Error.InvalidPageKind = omega arith
-two-digits Error.RegularPage = omega arith
-two-digits Error.RegularPageFunctions = omega arith
-two-digits Error.CompressedPage = omega arith
-two-digits Error.CompressedPageFunctions = omega arith
-two-digits Error.LocalOpcodes = omega arith
-two-digits Error.InvalidPageEntryFirstAddress = omega arith
-two-digits Error.AddressTooLarge = omega arith
-two-digits Error.LocalIndex = omega arith
-
 length-stop : (n : ℕ) → n < 2 ^ 64 → (x : Stop) → length (stopText n (whyOf x)) ≤ 25
 length-stop n h Stop.Full = omega arith
 length-stop n h Stop.End = length-end n h
-length-stop n h (Stop.Refused e) = omega (arith, length-refused (numberOf e) (omega (arith, two-digits e)))
+length-stop n h (Stop.Refused e) = omega (arith, length-refused (numberOf e) (omega (arith, number-of e .1)))
 
 -- `refused N`, and the end behind it: 52 bytes have room for both
 module _ (k : ℕ) (h : k < 256) (out : List ℕ) (room : 52 ≤ length out) (n : ℕ) (l : List ℕ) (q : written n l ≡ wholeOf (refusedOf k) out) where
@@ -173,3 +157,10 @@ accepted-parses s l e = by-length (leb (length s) 65536) refl e
     by-length : (b : Bool) → leb (length s) 65536 ≡ b → (_>>_ (check 30 b) (parseOf s)) ≡ good l → (parseOf s ≡ good l) × (length s ≤ 65536)
     by-length true h q = (q, leb-true _ _ h)
     by-length false h q = absurd (let z : _≡_ {A = ℕ} 0 1 = cc in omega arith)
+
+-- of an input with another version that is written, and the end
+pub other-version : (s : List ℕ) → 28 ≤ length s → length s ≤ 65536 → (versionOf s ≡ 1 → ⊥) → listingOf s ≡ refusedOf 15 ++ endOf 0
+unfolding listingOf
+other-version s h i v =
+    let same : refused 15 ≡ acceptedOf s = short s i (sym (said-15 s h v)) in
+    simp (← same)

@@ -32,6 +32,6 @@ functionsIn [] = 0
 functionsIn (good f ∷ r) = suc (functionsIn r)
 functionsIn (refused k ∷ r) = functionsIn r
 
--- What is iterated, answer after answer, and last `end F` with the functions printed; after 1, 2, 3 or 30 only `end 0` follows.
+-- What is iterated, answer after answer, and last `end F` with the functions printed; after 1, 2, 3, 15 or 30 only `end 0` follows.
 unfoldable pub listingOf : List ℕ → List ℕ
 listingOf s = either (λ k. refusedOf k ++ endOf 0) (λ l. answersText (iterated s l) ++ endOf (functionsIn (iterated s l))) (acceptedOf s)

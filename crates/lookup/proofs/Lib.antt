@@ -3,3 +3,4 @@ pub mod Steps
 pub mod Cases
 pub mod Probes
 pub mod One
+pub mod Numbers

@@ -1,11 +1,14 @@
 -- What the combined call promises (docs/FORMAT.md, 10.3 and 10.4), said once over the machine: a lookup refusal passed on unchanged, 20 for none,
 -- the step's answer where a function was found, the registers unchanged on every refusal, the probes never lost.
 -- Assumes nothing.
-use Prim.Native.Nat.{ℕ}
+use Prim.Native.Nat.{ℕ, _≤_}
 use mathlib.Core.Path.{_≡_, refl, ap}
 use mathlib.Core.List.{List}
+use lib.ListN.{length}
+use Rattle.raw.specs.Raw.{versionOf}
 use Rattle.entries.specs.declared.Function.{Function}
 use Rattle.lookup.specs.Lookup.{Looked, found, nothing, refusal, probesOf, lookupOn}
+use Rattle.lookup.proofs.Numbers.{other-version}
 use Rattle.frame.specs.Frame.{Regs}
 use Rattle.rules.specs.Answers.{numbered}
 use Rattle.step.specs.Steps.{Told}
@@ -60,3 +63,11 @@ module _ (section : List ℕ) (address base : ℕ) (window : List ℕ) (r : Regs
   pub combined-arm64 : Combined (λ w. stepsArm64.stepOf w base window r) r (lookupOn section address) (arm64.unwindOf section address base window r)
   unfolding arm64.unwindOf
   combined-arm64 = combined _ r (λ w. unchanged-arm64 w base window r) (lookupOn section address)
+
+  -- with another version than 1 the registers come back, and 15
+  module _ (header : 28 ≤ length section) (v : versionOf section ≡ 1 → ⊥) where
+    pub other-version-x86-64 : x86.unwindOf section address base window r ≡ unwound (numbered 15 0) 0 r
+    other-version-x86-64 = combined-x86-64 .refusal-passed-on 15 0 (other-version section address header v)
+
+    pub other-version-arm64 : arm64.unwindOf section address base window r ≡ unwound (numbered 15 0) 0 r
+    other-version-arm64 = combined-arm64 .refusal-passed-on 15 0 (other-version section address header v)

@@ -4,9 +4,12 @@
 use mathlib.Core.Path.{_≡_, refl, ap, sym, _∙_}
 use mathlib.Core.Bool.{cond}
 use mathlib.Mathlib.Logic.Function.Defs.{LeftInverse, LeftInverse·injective}
+use native.Mathlib.Omega.{arith}
+use borrow.Author.Tests.{ne-eqb, lt-ltb}
 use lib.Dec.{eqb, ltb}
-use Rattle.raw.specs.declared.Error.{Error}
-use Rattle.raw.proofs.One.{errorOf}
+use Rattle.raw.specs.Checked.{numberOf}
+use Rattle.raw.proofs.One.{errorOf, error-back}
+use Rattle.raw.proofs.Numbers.{number-of}
 use Rattle.rules.specs.Answers.{Number}
 use Rattle.rules.specs.declared.Refusal.{Refusal}
 use Rattle.rules.proofs.One.{backRefusal}
@@ -23,20 +26,9 @@ backOutcome n = cond (eqb (n .number) 0) Outcome.Answered (cond (ltb (n .number)
 
 wayOutcome : LeftInverse backOutcome outcomeOf
 wayOutcome Outcome.Answered = refl
-wayOutcome (Outcome.NotLookedUp Error.Header) = refl
-wayOutcome (Outcome.NotLookedUp Error.GlobalOpcodes) = refl
-wayOutcome (Outcome.NotLookedUp Error.Pages) = refl
-wayOutcome (Outcome.NotLookedUp Error.PageKind) = refl
-wayOutcome (Outcome.NotLookedUp Error.UnexpectedSentinelPage) = refl
-wayOutcome (Outcome.NotLookedUp Error.InvalidPageKind) = refl
-wayOutcome (Outcome.NotLookedUp Error.RegularPage) = refl
-wayOutcome (Outcome.NotLookedUp Error.RegularPageFunctions) = refl
-wayOutcome (Outcome.NotLookedUp Error.CompressedPage) = refl
-wayOutcome (Outcome.NotLookedUp Error.CompressedPageFunctions) = refl
-wayOutcome (Outcome.NotLookedUp Error.LocalOpcodes) = refl
-wayOutcome (Outcome.NotLookedUp Error.InvalidPageEntryFirstAddress) = refl
-wayOutcome (Outcome.NotLookedUp Error.AddressTooLarge) = refl
-wayOutcome (Outcome.NotLookedUp Error.LocalIndex) = refl
+wayOutcome (Outcome.NotLookedUp e) =
+    let n = number-of e in
+    simp (ne-eqb (numberOf e) 0 (omega (arith, n .0)), lt-ltb (numberOf e) 20 (omega (arith, n .1)), error-back e)
 wayOutcome (Outcome.NotStepped Refusal.Null) = refl
 wayOutcome (Outcome.NotStepped (Refusal.Dwarf low24)) = refl
 wayOutcome (Outcome.NotStepped (Refusal.UnrecognizedKind kind)) = refl

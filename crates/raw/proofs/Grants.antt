@@ -60,13 +60,13 @@ module _ (s : List ℕ) where
   no-header t = simp t
 
   pub other-version : (v : ℕ) → grantedOf 28 s 0 ≡ true → v ≡ wordAt 4 s 0 → (v ≡ 1 → ⊥) → refused 15 ≡ parseOf s
-  unfolding parseOf versionOf
+  unfolding parseOf
   other-version v t ev h = simp (t, sym ev, ne-eqb v 1 h)
 
   pub header-read : (w : Checked Lists) (v a g b n : ℕ) → grantedOf 28 s 0 ≡ true → v ≡ wordAt 4 s 0 → v ≡ 1
       → a ≡ wordAt 4 s 4 → g ≡ wordAt 4 s 8 → b ≡ wordAt 4 s 20 → n ≡ wordAt 4 s 24
       → w ≡ grantOf s (record { «global_opcodes_offset» = a; «global_opcodes_len» = g; «pages_offset» = b; «pages_len» = n }) → w ≡ parseOf s
-  unfolding parseOf versionOf headerOf
+  unfolding parseOf headerOf
   header-read w v a g b n t ev h ea eg eb en e = e ∙ simp (t, sym ev, eq-eqb v 1 h, sym ea, sym eg, sym eb, sym en)
 
   -- after a parse the version is 1, and the lists are granted

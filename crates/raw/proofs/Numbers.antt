@@ -82,7 +82,7 @@ module _ (s : List ℕ) (offset first : ℕ) where
 
 module _ (s : List ℕ) where
   -- 15 exactly if the header is there and its version isn't 1, whatever the lists
-  says-15 : parseOf s ≡ refused 15 → (28 ≤ length s) × (versionOf s ≡ 1 → ⊥)
+  pub says-15 : parseOf s ≡ refused 15 → (28 ≤ length s) × (versionOf s ≡ 1 → ⊥)
   unfolding parseOf
   says-15 e = by (grantedOf 28 s 0) refl (eqb (versionOf s) 1) refl e
     where
@@ -92,16 +92,31 @@ module _ (s : List ℕ) where
       by true p false q r = (fits 28 s 0 p, eqb-false _ _ q)
       by false p d q r = absurd (let z : _≡_ {A = ℕ} 0 1 = cc in omega arith)
 
-  said-15 : 28 ≤ length s → (versionOf s ≡ 1 → ⊥) → parseOf s ≡ refused 15
+  pub said-15 : 28 ≤ length s → (versionOf s ≡ 1 → ⊥) → parseOf s ≡ refused 15
   unfolding parseOf
   said-15 h v = simp (grants 28 s 0 h, ne-eqb _ _ v)
 
   pub fifteen : (parseOf s ≡ refused 15) ↔ ((28 ≤ length s) × (versionOf s ≡ 1 → ⊥))
   fifteen = (says-15, λ p. said-15 (p .0) (p .1))
 
-  -- and then it is all that is told
-  pub refused-with-15 : {B : Type 0} (otherwise : ℕ → B) (f : Lists → B) → 28 ≤ length s → (versionOf s ≡ 1 → ⊥) → either otherwise f (parseOf s) ≡ otherwise 15
-  refused-with-15 otherwise f h v = ap (either otherwise f) (said-15 h v)
+  -- and then nothing else is told by a call that parses
+  pub only-15 : {B : Type 0} (otherwise : ℕ → B) (f : Lists → B) → 28 ≤ length s → (versionOf s ≡ 1 → ⊥) → either otherwise f (parseOf s) ≡ otherwise 15
+  only-15 otherwise f h v = ap (either otherwise f) (said-15 h v)
+
+-- A call on lists, which answers so where they are refused and so where they are there; `why` tells its refusal. What it refuses itself has a number of
+-- those behind the header's.
+module _ {B : Type 0} (otherwise : ℕ → B) (f : Lists → B) (why : B → Checked (Unit {0})) (passed-on : (k : ℕ) → why (otherwise k) ≡ refused k) (inside : (l : Lists) → Behind (why (f l))) (s : List ℕ) where
+  -- on the bytes alone it says 15 exactly if the header is there and its version isn't 1
+  says : (t : Checked Lists) → why (either otherwise f t) ≡ refused 15 → t ≡ refused 15
+  says (good l) e = absurd (never-15 _ (inside l) e)
+  says (refused k) e = ap (either refused (λ z. refused 0)) (sym (passed-on k) ∙ e)
+
+  pub exactly-15 : (why (either otherwise f (parseOf s)) ≡ refused 15) ↔ ((28 ≤ length s) × (versionOf s ≡ 1 → ⊥))
+  exactly-15 = (λ e. says-15 s (says (parseOf s) e), λ p. ap why (only-15 s otherwise f (p .0) (p .1)) ∙ passed-on 15)
+
+  -- on lists that anyone names it never does
+  pub never-15-in : (l : Lists) → why (either otherwise f (grantOf s l)) ≡ refused 15 → ⊥
+  never-15-in l e = never-15 _ (of-lists s l) (says (grantOf s l) e)
 
 -- the section's refusals have the numbers from 1 to 15
 pub number-of : (e : Error) → (0 < numberOf e) × (numberOf e < 16)

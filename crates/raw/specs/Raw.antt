@@ -24,7 +24,7 @@ grantOf s l = do
   good l
 
 -- 2.1: what the header names: version, then offset and count of global opcodes, of personalities, of pages
-unfoldable pub versionOf : List ℕ → ℕ
+abbrev pub versionOf : List ℕ → ℕ
 versionOf s = wordAt 4 s 0
 
 unfoldable pub headerOf : List ℕ → Lists

@@ -13,7 +13,8 @@ use Rattle.search.specs.Search.{Rising}
 use Rattle.raw.specs.declared.Lists.{Lists}
 use Rattle.raw.specs.declared.Page.{Page}
 use Rattle.raw.specs.Checked.{Checked, good, refused, either}
-use Rattle.raw.specs.Raw.{parseOf, globalsOf, localsGranted}
+use Rattle.raw.specs.Raw.{versionOf, parseOf, globalsOf, localsGranted}
+use Rattle.raw.proofs.Grants.{version-1}
 use Rattle.raw.proofs.Opens.{opened-reads}
 use Rattle.entries.specs.Entries.{functionsOf, localsOf, endIn, startOf, endOf, opcodeOf}
 use Rattle.entries.specs.Section.{firstOf, offsetOf, pageAt, openedAt}
@@ -113,6 +114,10 @@ unfolding wellFormed
 said-yes s e =
     let t = passes (goodPages s) (parseOf s) e in
     record { lists = t .0; parses = t .1; sound = lists-good s (t .0) (t .2) }
+
+-- and those have version 1
+pub has-version-1 : (s : List ℕ) → WellFormed s → versionOf s ≡ 1
+has-version-1 s w = version-1 s (w .lists) (w .parses)
 
 pub exactly : (s : List ℕ) → (wellFormed s ≡ true) ↔ WellFormed s
 exactly s = (said-yes s, says-yes s)

@@ -1,5 +1,5 @@
--- A small section for each refusal 1 to 14, S with some bytes changed or cut off: what iteration and lookup tell of it, by computation. Where two
--- faults meet, the order of checks of docs/FORMAT.md, 4.2 and 5.2, is seen: 2 before 3, 7 before 8, 9 before 10 before 11, 12 before 11, 13 before
+-- A small section for each refusal 1 to 15, S with some bytes changed or cut off: what iteration and lookup tell of it, by computation. Where two
+-- faults meet, the order of checks of docs/FORMAT.md, 4.2 and 5.2, is seen: 1 before 15 before 2 before 3, 7 before 8, 9 before 10 before 11, 12 before 11, 13 before
 -- 11 and 14, 11 before 14.
 -- Assumes nothing.
 use Prim.Native.Nat.{ℕ, _+_}
@@ -32,12 +32,22 @@ function k i = answer (refused k) (cursor 0 (i + 1))
 abbrev its : Checked Range
 its = ranging 0x1000 0x1100
 
--- 1, 2 and 3 leave the cursor where it was
+-- what does not parse: whatever is asked, the number is told, without a probe, and the cursor stays where it was
+abbrev unparsed : ℕ → List ℕ → Row
+unparsed k s = row s false (refused k) ((cursor 5 7 ⇒ answer (refused k) (cursor 5 7)) ∷ []) ((0x1000 ⇒ refusal k 0) ∷ [])
+
+-- versions 0, 2, 2 ^ 32 - 1, and 1 as big-endian; 15 before 2
 abbrev rows : List Row
 rows =
-    row (take 27 S) false (refused 1) ((cursor 5 7 ⇒ answer (refused 1) (cursor 5 7)) ∷ []) ((0x1000 ⇒ refusal 1 0) ∷ [])
-    ∷ row (put 8 (14 ∷ []) (put 24 (5 ∷ []) S)) false (refused 2) ((cursor 5 7 ⇒ answer (refused 2) (cursor 5 7)) ∷ []) ((0x1000 ⇒ refusal 2 0) ∷ [])
-    ∷ row (put 24 (5 ∷ []) S) false (refused 3) ((cursor 5 7 ⇒ answer (refused 3) (cursor 5 7)) ∷ []) ((0x1000 ⇒ refusal 3 0) ∷ [])
+    unparsed 1 (take 27 S)
+    ∷ unparsed 1 (take 27 (put 0 (2 ∷ []) S))
+    ∷ unparsed 15 (put 0 (0 ∷ []) S)
+    ∷ unparsed 15 (put 0 (2 ∷ []) S)
+    ∷ unparsed 15 (put 0 (255 ∷ 255 ∷ 255 ∷ 255 ∷ []) S)
+    ∷ unparsed 15 (put 0 (0 ∷ 0 ∷ 0 ∷ 1 ∷ []) S)
+    ∷ unparsed 15 (put 0 (2 ∷ []) (put 8 (14 ∷ []) S))
+    ∷ unparsed 2 (put 8 (14 ∷ []) (put 24 (5 ∷ []) S))
+    ∷ unparsed 3 (put 24 (5 ∷ []) S)
     ∷ row (put 36 (77 ∷ []) S) false its ((cursor 0 0 ⇒ page 4) ∷ []) ((0x1000 ⇒ refusal 4 2) ∷ [])
     ∷ row (put 56 (1 ∷ []) S) false its ((cursor 0 0 ⇒ page 5) ∷ []) ((0x1000 ⇒ refusal 5 2) ∷ [])
     ∷ row (put 56 (4 ∷ []) S) false its ((cursor 0 0 ⇒ page 6) ∷ []) ((0x1000 ⇒ refusal 6 2) ∷ [])
