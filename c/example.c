@@ -57,7 +57,7 @@ static void look_up(const uint8_t *section, size_t len, uint32_t address)
     }
 }
 
-/* The section parses, so 1 to 3 do not come, and every block brings the cursor on. */
+/* The section parses, so 1 to 3 and 15 do not come, and every block brings the cursor on. */
 static void list_functions(const uint8_t *section, size_t len)
 {
     uint32_t block[3 * 256];

@@ -63,6 +63,7 @@ NUMBER(REFUSED_LOCAL_OPCODES, 11);
 NUMBER(REFUSED_INVALID_PAGE_ENTRY_FIRST_ADDRESS, 12);
 NUMBER(REFUSED_ADDRESS_TOO_LARGE, 13);
 NUMBER(REFUSED_LOCAL_INDEX, 14);
+NUMBER(REFUSED_WRONG_VERSION, 15);
 NUMBER(REFUSED_NULL, 20);
 NUMBER(REFUSED_DWARF, 21);
 NUMBER(REFUSED_UNRECOGNIZED_KIND, 22);
@@ -157,8 +158,8 @@ static void no_header(uint8_t section[sizeof T])
 static void texts(void)
 {
     const uint32_t used[] = {0,  1,  2,  3,  4,  5,  6,  7,  8,  9,  10, 11, 12,
-                             13, 14, 20, 21, 22, 23, 24, 25, 26, 27, 28, 30};
-    const uint32_t others[] = {15, 16, 17, 18, 19, 29, 31, 256, 65536 + 1, UINT32_MAX};
+                             13, 14, 15, 20, 21, 22, 23, 24, 25, 26, 27, 28, 30};
+    const uint32_t others[] = {16, 17, 18, 19, 29, 31, 256, 65536 + 1, UINT32_MAX};
     const size_t n = sizeof used / sizeof used[0];
     char version[32];
 
@@ -367,6 +368,8 @@ static void lists(void)
     IS(r.end, 0);
 
     IS(brasspurse_is_well_formed(T, sizeof T), true);
+    IS(brasspurse_is_well_formed(bare, sizeof T), false); /* version 0 */
+    put(bare, 0, 1);
     IS(brasspurse_is_well_formed(bare, sizeof T), true); /* without lists */
     IS(brasspurse_is_well_formed(S, 80), true);
     IS(brasspurse_is_well_formed(S, 79), false);
@@ -943,8 +946,65 @@ static void nothing_lent(void)
     IS(number[0], 0xeeeeeeee);
 }
 
-/* Each refusal of a section, from S: cut to `len` bytes, and with the number at `at` changed (at 0
- * is the version, which is not looked at). */
+/* A section with another version than 1: every call that reads the header says 15 and nothing else,
+ * whatever the rest is, and every other call answers as if the version were 1. */
+static void versions(void)
+{
+    const uint32_t others[] = {0, 2, 256, 0x01000000, UINT32_MAX};
+    const uint32_t addresses[5] = {0x1040, 0x1000, 0x0fff, 0x1100, 0x1040};
+    const struct brasspurse_lists lists = {28, 1, 32, 2};
+    const struct brasspurse_registers_x86_64 x = x86_64(0x7000, 0x7030);
+    const struct brasspurse_registers_arm64 a = arm64(0x8000, 0x8090);
+    uint8_t section[sizeof S];
+    uint32_t out[26];
+
+    memcpy(section, S, sizeof S);
+    for (size_t i = 0; i < sizeof others / sizeof others[0]; i++) {
+        const uint8_t n = BRASSPURSE_REFUSED_WRONG_VERSION;
+
+        put(section, 0, others[i]);
+        /* With the whole section, without its pages, without its lists: 15; then 1. */
+        for (size_t len = 80; len > 20; len -= 26) {
+            IS(brasspurse_parse(section, len).refusal, n);
+            IS(brasspurse_parse(section, len).pages_len, 0);
+            IS(brasspurse_address_range(section, len).refusal, n);
+            IS(brasspurse_is_well_formed(section, len), false);
+            IS_LOOKUP(brasspurse_lookup(section, len, 0x1040), 0, 0, 0, 0,
+                      BRASSPURSE_LOOKUP_REFUSED, n);
+            memset(out, 0xee, sizeof out);
+            IS(brasspurse_lookup_batch(section, len, addresses, 5, out, 26), 5);
+            for (size_t k = 0; k < 5; k++)
+                IS_LOOKUP(brasspurse_batch_answer(out, k), 0, 0, 0, 0, BRASSPURSE_LOOKUP_REFUSED,
+                          n);
+            IS(out[20], 0xeeeeeeee);
+            IS_NEXT(brasspurse_next(section, len, 5, 7), 0, 0, 0, 5, 7, BRASSPURSE_NEXT_REFUSED,
+                    n);
+            memset(out, 0xee, sizeof out);
+            for (size_t room = 0; room < 26; room += 5)
+                IS_FILL(brasspurse_fill(section, len, 5, 7, out, room), 0, 5, 7,
+                        BRASSPURSE_FILL_REFUSED, n);
+            IS_LISTED(out, 0, 0);
+            IS_UNWIND_X86_64(
+                brasspurse_unwind_x86_64(section, len, 0x1010, x, 0x7000, fields_frame, 64), n, 0,
+                0, x);
+            IS_UNWIND_ARM64(
+                brasspurse_unwind_arm64(section, len, 0x1010, a, 0x8000, pairs_frame, 160), n, 0,
+                0, a);
+        }
+        IS(brasspurse_parse(section, 27).refusal, BRASSPURSE_REFUSED_HEADER);
+
+        IS(brasspurse_address_range_in(section, 80, lists).end, 0x1100);
+        IS_LOOKUP(brasspurse_lookup_in(section, 80, lists, 0x1040), 0x1040, 0x1100, 0x02030800, 3,
+                  BRASSPURSE_LOOKUP_FUNCTION, 0);
+        IS_NEXT(brasspurse_next_in(section, 80, lists, 0, 1), 0x1040, 0x1100, 0x02030800, 0, 2,
+                BRASSPURSE_NEXT_FUNCTION, 0);
+        IS_FILL(brasspurse_fill_in(section, 80, lists, 0, 0, out, 26), 2, 1, 0,
+                BRASSPURSE_FILL_END, 0);
+    }
+}
+
+/* Each other refusal of a section, from S: cut to `len` bytes, and with the number at `at` changed
+ * (at 0 is the version, and stays 1). */
 static void section_refusals(void)
 {
     const struct {
@@ -1015,6 +1075,7 @@ int main(void)
     steps();
     unwinding();
     nothing_lent();
+    versions();
     section_refusals();
     printf("%u checks, %u failed\n", checks, failed);
     return failed != 0;

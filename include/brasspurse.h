@@ -60,7 +60,7 @@ extern "C" {
 #define BRASSPURSE_VERSION_MINOR 2
 #define BRASSPURSE_VERSION_PATCH 0
 
-/* Refusals. 15 to 19 and 29 are not in use. */
+/* Refusals. 16 to 19 and 29 are not in use. */
 
 enum brasspurse_refusal {
     /* there is an answer */
@@ -96,6 +96,8 @@ enum brasspurse_refusal {
     BRASSPURSE_REFUSED_ADDRESS_TOO_LARGE = 13,
     /* a function's opcode index is past the page's local opcodes */
     BRASSPURSE_REFUSED_LOCAL_INDEX = 14,
+    /* the header's version is not 1; tested after 1 and before 2 */
+    BRASSPURSE_REFUSED_WRONG_VERSION = 15,
 
     /* Of an opcode word and its frame. */
 
@@ -156,6 +158,8 @@ static inline const char *brasspurse_refusal_text(uint32_t refusal)
         return "a function's start or end is above 2^32 - 1";
     case BRASSPURSE_REFUSED_LOCAL_INDEX:
         return "a function's opcode index names no opcode";
+    case BRASSPURSE_REFUSED_WRONG_VERSION:
+        return "the header's version is not 1";
     case BRASSPURSE_REFUSED_NULL:
         return "the opcode word is null, or no function covers the address";
     case BRASSPURSE_REFUSED_DWARF:
@@ -194,18 +198,19 @@ struct brasspurse_lists {
 };
 
 struct brasspurse_parse_answer {
-    uint32_t refusal;               /* 0, or 1 to 3 */
+    uint32_t refusal;               /* 0, or 1, 15, 2 or 3 */
     uint32_t global_opcodes_offset; /* this and the rest: as in struct brasspurse_lists */
     uint32_t global_opcodes_len;
     uint32_t pages_offset;
     uint32_t pages_len;
 };
 
-/* Finds the lists that the header names. The header's version is not looked at. */
+/* Finds the lists that the header names, if its version is 1. The checks come in the order 1, 15,
+ * 2, 3. The calls whose names end in _in do not read the header: they never say 1 or 15. */
 struct brasspurse_parse_answer brasspurse_parse(const uint8_t *section, size_t section_len);
 
 struct brasspurse_range_answer {
-    uint32_t refusal; /* 0, or 1 to 3 */
+    uint32_t refusal; /* 0, or 1, 15, 2 or 3 */
     uint32_t start;   /* the first page's first address; 0 if there are no pages */
     uint32_t end;     /* the last page's, where the last function ends; 0 if there are none */
 };
@@ -228,9 +233,9 @@ struct brasspurse_lookup_answer {
     uint32_t start;  /* the function's first address */
     uint32_t end;    /* the first address after it */
     uint32_t opcode; /* its opcode word */
-    uint16_t probes; /* how many entries the searches looked at, in every case; 0 after 1 to 3 */
+    uint16_t probes; /* how many entries the searches looked at; 0 if the section doesn't parse */
     uint8_t outcome; /* an enum brasspurse_lookup_outcome */
-    uint8_t refusal; /* 0, or 1 to 14 */
+    uint8_t refusal; /* 0, or 1 to 15 */
 };
 
 /* The function that covers the address. In a section that is not well formed it is the one that
@@ -244,7 +249,7 @@ struct brasspurse_lookup_answer brasspurse_lookup_in(const uint8_t *section, siz
 /* Looks many addresses up, as many as there are and as `answers` has room for: the smaller of
  * addresses_len and answers_len / 4, which is what it returns. Each answer is four numbers of
  * `answers`, in the order of the addresses; brasspurse_batch_answer unpacks one. The numbers after
- * them stay as they were. A section that does not parse gives every answer its 1, 2 or 3. */
+ * them stay as they were. A section that does not parse gives every answer its 1, 15, 2 or 3. */
 size_t brasspurse_lookup_batch(const uint8_t *section, size_t section_len,
                                const uint32_t *addresses, size_t addresses_len,
                                uint32_t *answers, size_t answers_len);
@@ -276,7 +281,7 @@ enum brasspurse_next_outcome {
 };
 
 /* After 13 and 14 the cursor stands past the function, after 4 to 11 past the page, so that a loop
- * goes on; after 1 to 3 it is as it was, and a loop has to end. */
+ * goes on; after 1 to 3 and 15 it is as it was, and a loop has to end. */
 struct brasspurse_next_answer {
     uint32_t start;   /* the function's first address */
     uint32_t end;     /* the first address after it */
@@ -284,7 +289,7 @@ struct brasspurse_next_answer {
     uint32_t page;    /* the cursor for the next call, in every case */
     uint32_t index;
     uint16_t outcome; /* an enum brasspurse_next_outcome */
-    uint16_t refusal; /* 0, or 1 to 11, 13, 14 */
+    uint16_t refusal; /* 0, or 1 to 11, 13 to 15 */
 };
 
 /* The function at the cursor. */
@@ -305,16 +310,16 @@ struct brasspurse_fill_answer {
     uint32_t page;    /* the cursor, as in struct brasspurse_next_answer */
     uint32_t index;
     uint16_t outcome; /* an enum brasspurse_fill_outcome */
-    uint16_t refusal; /* 0, or 1 to 11, 13, 14 */
+    uint16_t refusal; /* 0, or 1 to 11, 13 to 15 */
 };
 
 /* Writes the functions from the cursor on, as the calls of brasspurse_next one after the other
  * tell them: three numbers of `out` each, which are start, end and opcode. It stops at the end, at
- * a refusal, and when out_len / 3 are written. The numbers after them stay as they were. 1 to 3
- * come before the room is looked at, so with any out_len; the end and the other refusals come only
- * where there is room for another function. A loop over blocks goes on after a refusal of 4 to 14,
- * ends after one of 1 to 3, and needs an out_len of 3 or more: with less, a section that parses is
- * "full" for ever. */
+ * a refusal, and when out_len / 3 are written. The numbers after them stay as they were. 1 to 3 and
+ * 15 come before the room is looked at, so with any out_len; the end and the other refusals come
+ * only where there is room for another function. A loop over blocks goes on after a refusal of 4
+ * to 14, ends after one of 1 to 3 or 15, and needs an out_len of 3 or more: with less, a section
+ * that parses is "full" for ever. */
 struct brasspurse_fill_answer brasspurse_fill(const uint8_t *section, size_t section_len,
                                               uint32_t page, uint32_t index, uint32_t *out,
                                               size_t out_len);
@@ -322,10 +327,10 @@ struct brasspurse_fill_answer brasspurse_fill_in(const uint8_t *section, size_t 
                                                  struct brasspurse_lists lists, uint32_t page,
                                                  uint32_t index, uint32_t *out, size_t out_len);
 
-/* Whether the section parses, its addresses rise strictly, its pages begin with a function at
- * their first address, and iteration refuses nothing. If so, no lookup in it is refused, and one
- * finds a function exactly if iteration lists it and start <= address < end. It reads every
- * function, so ask once for a section. */
+/* Whether the section parses, so that its version is 1, its addresses rise strictly, its pages begin
+ * with a function at their first address, and iteration refuses nothing. If so, no lookup in it is
+ * refused, and one finds a function exactly if iteration lists it and start <= address < end. It
+ * reads every function, so ask once for a section. */
 bool brasspurse_is_well_formed(const uint8_t *section, size_t section_len);
 
 /* Opcode words. Bits that a word's kind gives no meaning are ignored. */
@@ -515,7 +520,7 @@ brasspurse_step_arm64(uint32_t opcode, struct brasspurse_registers_arm64 registe
 /* Unwinding: a lookup, then a step by the word found. */
 
 struct brasspurse_unwind_x86_64_answer {
-    uint32_t refusal; /* 0; 1 to 14 from the lookup; 20 also if it finds none; 20 to 27 */
+    uint32_t refusal; /* 0; 1 to 15 from the lookup; 20 also if it finds none; 20 to 27 */
     uint32_t value;   /* for 21 DWARF's 24 bits, for 22 the kind */
     uint32_t probes;  /* the lookup's, in every case */
     struct brasspurse_registers_x86_64 registers; /* the caller's; on refusal those passed in */

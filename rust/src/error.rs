@@ -7,9 +7,10 @@
 
 use std::fmt::{Display, Formatter, Result};
 
-/// Why a section, or one of its functions, is refused: the numbers 1 to 14.
+/// Why a section, or one of its functions, is refused: the numbers 1 to 15.
 ///
-/// The last two are not in the original, whose sums wrap and which panics there.
+/// The last three are not in the original: its sums wrap, it panics, and it does not look at the
+/// version.
 #[derive(Clone, Copy, Debug, PartialEq, Eq)]
 pub enum Error {
     /// 1 to 4 and 7 to 11: something lies outside the section.
@@ -24,6 +25,8 @@ pub enum Error {
     AddressTooLarge,
     /// 14: a function's opcode index is past both lists of opcodes.
     LocalIndex,
+    /// 15: the header's version is not 1.
+    WrongVersion,
 }
 
 /// What lies outside the section.
@@ -128,6 +131,7 @@ impl Error {
             Error::InvalidPageEntryFirstAddress => 12,
             Error::AddressTooLarge => 13,
             Error::LocalIndex => 14,
+            Error::WrongVersion => 15,
         }
     }
 
@@ -147,6 +151,7 @@ impl Error {
             12 => Error::InvalidPageEntryFirstAddress,
             13 => Error::AddressTooLarge,
             14 => Error::LocalIndex,
+            15 => Error::WrongVersion,
             _ => unknown(number),
         }
     }
@@ -194,7 +199,7 @@ impl Refusal {
 }
 
 impl UnwindError {
-    /// The refusal's number, 1 to 14 or 20 to 27.
+    /// The refusal's number, 1 to 15 or 20 to 27.
     pub fn number(&self) -> u32 {
         match self {
             UnwindError::Lookup { error, .. } => error.number(),
@@ -289,6 +294,7 @@ impl Display for Error {
             }
             Error::AddressTooLarge => "a function's address is above 2^32 - 1",
             Error::LocalIndex => "a function's opcode index names none",
+            Error::WrongVersion => "the header's version is not 1",
         };
         write!(f, "refused {}: {what}", self.number())
     }

@@ -65,7 +65,7 @@
 //! then needed this, and no more:
 //!
 //! - Its `match` on [`Error`] that named every variant did not compile: it got arms for
-//!   [`Error::AddressTooLarge`] and [`Error::LocalIndex`].
+//!   [`Error::AddressTooLarge`], [`Error::LocalIndex`] and [`Error::WrongVersion`].
 //! - Its tests of texts failed: those of words and of errors are others.
 //! - Its test that an [`Error::ReadError`] has a [`ReadError`] as `source()` failed: here it has none.
 //!
@@ -92,6 +92,8 @@
 //!
 //! - [`Error::AddressTooLarge`] and [`Error::LocalIndex`] are new. There the original's sums wrap,
 //!   or it panics.
+//! - So is [`Error::WrongVersion`]: [`UnwindInfo::parse`] refuses a header whose version is not 1,
+//!   at which the original does not look.
 //! - In a section whose addresses don't rise, a lookup finds what its bisection finds; the
 //!   original's may find another entry.
 //! - After an error [`FunctionIter::next`] goes on behind what was refused. The original does so
@@ -102,7 +104,7 @@
 //!
 //! # What is added
 //!
-//! - Refusals have numbers: every error type has `number()`. [`Error`] has 1 to 14, [`Refusal`] 20
+//! - Refusals have numbers: every error type has `number()`. [`Error`] has 1 to 15, [`Refusal`] 20
 //!   to 27, [`UnwindError`] both, [`PermutationError`] 23 and 28.
 //! - [`frames`] has the rule of a word, and the step by it from a frame's registers to its
 //!   caller's; [`UnwindInfo::unwind_x86_64`] and [`UnwindInfo::unwind_arm64`] look up and step in

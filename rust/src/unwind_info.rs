@@ -26,7 +26,7 @@ pub struct Function {
 }
 
 impl<'a> UnwindInfo<'a> {
-    /// The view of a section's bytes, at any alignment. Refuses with 1, 2 or 3; what is wrong
+    /// The view of a section's bytes, at any alignment. Refuses with 1, 15, 2 or 3; what is wrong
     /// behind the two lists is found by the calls that meet it.
     pub fn parse(data: &'a [u8]) -> Result<Self, Error> {
         let answer = ffi::parse(data);

@@ -159,8 +159,9 @@ pub fn advice(error: &Error) -> &'static str {
         Error::InvalidPageEntryFirstAddress => "an older linker's section",
         Error::InvalidPageKind => "not a section of this format",
         Error::UnexpectedSentinelPage => "not a section of this format",
-        // Changed: two variants more.
+        // Changed: three variants more.
         Error::AddressTooLarge | Error::LocalIndex => "not a section of this format",
+        Error::WrongVersion => "a newer linker's section",
     }
 }
 

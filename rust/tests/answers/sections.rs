@@ -119,7 +119,8 @@ fn the_range_is_from_the_first_page_to_the_last() {
         0x1000..0x1100
     );
     // No pages.
-    let info = [0; 28];
+    let mut info = [0; 28];
+    info[0] = 1;
     assert_eq!(UnwindInfo::parse(&info).unwrap().address_range(), 0..0);
 }
 
@@ -140,6 +141,23 @@ fn what_does_not_parse_is_refused() {
     assert_eq!(refused(&s()[..55]), read(ReadError::Pages));
     assert_eq!(refused(&s_with(&[(8, u32::MAX)])).unwrap().number(), 2);
     assert_eq!(refused(&s_with(&[(24, u32::MAX)])).unwrap().number(), 3);
+}
+
+/// 15 comes after 1 and before 2, whatever the rest is.
+#[test]
+fn another_version_is_refused() {
+    for version in [0, 2, 256, 1 << 24, u32::MAX] {
+        let section = s_with(&[(0, version)]);
+        for len in [28, 31, 55, 80] {
+            let error = UnwindInfo::parse(&section[..len]).err().unwrap();
+            assert_eq!((error, error.number()), (Error::WrongVersion, 15));
+            assert!(!is_well_formed(&section[..len]));
+        }
+        let short = UnwindInfo::parse(&section[..27]).err();
+        assert_eq!(short, Some(ReadError::Header.into()));
+    }
+    let text = Error::WrongVersion.to_string();
+    assert_eq!(text, "refused 15: the header's version is not 1");
 }
 
 /// The local opcodes are cut, and only a word among them needs them.
