@@ -55,9 +55,9 @@ extern "C" {
 #endif
 
 /* This header's version. */
-#define BRASSPURSE_VERSION "0.2.0"
+#define BRASSPURSE_VERSION "0.3.0"
 #define BRASSPURSE_VERSION_MAJOR 0
-#define BRASSPURSE_VERSION_MINOR 2
+#define BRASSPURSE_VERSION_MINOR 3
 #define BRASSPURSE_VERSION_PATCH 0
 
 /* Refusals. 16 to 19 and 29 are not in use. */

@@ -25,6 +25,8 @@ use search::search;
 pub type Refusal = u8;
 
 const HEADER: u64 = 28;
+/// The one version that is read.
+const VERSION: u32 = 1;
 const PAGE_ENTRY: u64 = 12;
 const OPCODE: u64 = 4;
 
@@ -40,6 +42,15 @@ type Function = (u32, u32, u32);
 
 impl<'a> Section<'a> {
     pub fn parse(section: &'a [u8]) -> Result<Self, Refusal> {
+        let bytes = Bytes(section);
+        if bytes.granted(0, HEADER) && bytes.u32(0) != VERSION {
+            return Err(15);
+        }
+        Self::of_any_version(section)
+    }
+
+    /// By the header's lists, whatever its version.
+    pub fn of_any_version(section: &'a [u8]) -> Result<Self, Refusal> {
         let bytes = Bytes(section);
         if !bytes.granted(0, HEADER) {
             return Err(1);

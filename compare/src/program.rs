@@ -110,11 +110,18 @@ fn inputs() -> Result<Vec<(String, Vec<u8>)>> {
     for length in [0, 1, 27, 28, LIMIT - 1, LIMIT, LIMIT + 1, 2 * LIMIT] {
         inputs.push((format!("{length} zeros"), vec![0; length]));
         inputs.push((format!("{length} bytes 255"), vec![255; length]));
+        let mut headed = vec![0; length];
+        headed.iter_mut().take(1).for_each(|byte| *byte = 1);
+        inputs.push((format!("a 1 and zeros, {length} bytes"), headed));
     }
     for number in 0..100 {
         inputs.push((format!("noise {number}"), damage::noise(&mut random)));
     }
     for real in corpus::sections()? {
+        for version in [0, 2, u32::MAX] {
+            let changed = damage::version(&real.bytes, version);
+            inputs.push((format!("{}, version {version}", real.name), changed));
+        }
         for number in 0..10 {
             let changed = changed(&mut random, &real.bytes);
             inputs.push((format!("{} changed, {number}", real.name), changed));

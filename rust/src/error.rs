@@ -352,7 +352,7 @@ mod tests {
 
     #[test]
     fn every_number_has_a_name_that_gives_it_back() {
-        for number in 1..=14 {
+        for number in 1..=15 {
             assert_eq!(Error::from_number(number).number(), number);
             let error = UnwindError::from_number(number, 0, 7);
             assert_eq!(
@@ -377,9 +377,9 @@ mod tests {
 
     #[test]
     fn each_text_begins_with_its_number_and_no_two_are_the_same() {
-        let errors = (1..=14).map(|number| Error::from_number(number).to_string());
+        let errors = (1..=15).map(|number| Error::from_number(number).to_string());
         let refusals = (20..=27).map(|number| Refusal::from_number(number, 0).to_string());
-        let numbers = (1..=14).chain(20..=27);
+        let numbers = (1..=15).chain(20..=27);
         let texts: Vec<String> = errors.chain(refusals).collect();
         for (number, text) in numbers.zip(&texts) {
             assert!(text.starts_with(&format!("refused {number}: ")), "{text}");
@@ -399,7 +399,7 @@ mod tests {
     #[test]
     fn a_chain_says_each_thing_once() {
         let mut errors: Vec<Box<dyn std::error::Error>> = Vec::new();
-        for number in 1..=14 {
+        for number in 1..=15 {
             let error = Error::from_number(number);
             if let Error::ReadError(read) = error {
                 assert_eq!(read.to_string(), error.to_string());
@@ -415,7 +415,7 @@ mod tests {
         for number in [23, 28] {
             errors.push(PermutationError::from_number(number).into());
         }
-        assert_eq!(errors.len(), 9 + 2 * 14 + 2 * 8 + 2);
+        assert_eq!(errors.len(), 9 + 2 * 15 + 2 * 8 + 2);
         for error in errors {
             let texts = chain(&*error);
             for (i, text) in texts.iter().enumerate() {

@@ -9,7 +9,7 @@ mod sides;
 
 use super::case::Case;
 use super::opened::Opened;
-use super::outside::Outside;
+use super::outside::{Outside, Reason};
 use crate::ffi::section as ours;
 use crate::model;
 use crate::oracle::section::BUILDS;
@@ -81,10 +81,16 @@ impl Checks {
     fn parse(&mut self, opened: &Opened) -> bool {
         let input = || opened.case.asked("parse");
         let answer = ours::parse(opened.section);
-        for (tally, build) in self.parse.rust.iter_mut().zip(&BUILDS) {
-            tally.check(input, answer, (build.parse)(opened.section));
-        }
         let model = model::parse(opened.section);
+        for (number, build) in BUILDS.iter().enumerate() {
+            self.parse.compared(
+                &mut self.outside,
+                (opened.case, &"parse"),
+                number,
+                Reason::of(number, true, model.refusal),
+                (answer, (build.parse)(opened.section)),
+            );
+        }
         self.parse.model.check(input, answer, model)
     }
 
@@ -93,13 +99,19 @@ impl Checks {
         let answer = ours::address_range(opened.section);
         let model = model::address_range(&opened.model);
         self.range.model.check(input, answer, model);
-        if opened.model.is_ok() {
+        if opened.listed.is_ok() {
             let again = ours::address_range_in(opened.section, opened.lists);
+            let model = model::address_range(&opened.listed);
             self.range.model.check(input, again, model);
         }
         for (build, view) in opened.views() {
-            let range = view.address_range();
-            self.range.rust[build].check(input, (answer.start, answer.end), range);
+            self.range.compared(
+                &mut self.outside,
+                (opened.case, &"address range"),
+                build,
+                Reason::of(build, true, model.refusal),
+                ((answer.start, answer.end), view.address_range()),
+            );
         }
     }
 

@@ -139,7 +139,12 @@ fn damage_field(random: &mut Random, bytes: &mut [u8], Field { offset, width }: 
     field.copy_from_slice(&new.to_le_bytes()[..width]);
 }
 
-/// Bytes at random; most have a header whose lists can be read.
+/// The section with another version in its header.
+pub fn version(section: &[u8], version: u32) -> Vec<u8> {
+    [&version.to_le_bytes(), &section[4..]].concat()
+}
+
+/// Bytes at random; most have a header of version 1 whose lists can be read.
 pub fn noise(random: &mut Random) -> Vec<u8> {
     let length = random.below(160);
     let mut bytes: Vec<u8> = (0..length).map(|_| noise_byte(random)).collect();
@@ -147,6 +152,7 @@ pub fn noise(random: &mut Random) -> Vec<u8> {
         let pages = random.below((length - 28) / 12 + 1);
         let globals = random.below((length - 28) / 4 + 1);
         for (offset, number) in [
+            (0, 1),
             (4, random.below(length - 4 * globals + 1)),
             (8, globals),
             (20, random.below(length - 12 * pages + 1)),

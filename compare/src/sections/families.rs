@@ -18,7 +18,7 @@ pub struct Family<'a> {
     pub sections: Box<dyn Iterator<Item = Vec<u8>> + 'a>,
 }
 
-pub fn all(real: &[Real]) -> [Family<'_>; 7] {
+pub fn all(real: &[Real]) -> [Family<'_>; 8] {
     [
         family("S cut at", small::prefixes()),
         family("S changed", small::mutations()),
@@ -27,6 +27,7 @@ pub fn all(real: &[Real]) -> [Family<'_>; 7] {
         family("damaged", damaged_sections()),
         family("noise", noise()),
         family("real, damaged", damaged_real_sections(real)),
+        family("real, another version", other_versions(real)),
     ]
 }
 
@@ -79,6 +80,13 @@ fn damaged_real_sections(real: &[Real]) -> impl Iterator<Item = Vec<u8>> + '_ {
         let mut written = Written::of_words(&small[i % small.len()].bytes);
         damage::bytes(&mut random, &mut written);
         written.bytes
+    })
+}
+
+/// Each real section with other versions: near 1, 1 as big-endian, and the highest.
+fn other_versions(real: &[Real]) -> impl Iterator<Item = Vec<u8>> + '_ {
+    real.iter().flat_map(|real| {
+        [0, 2, 0x0100_0000, u32::MAX].map(|version| damage::version(&real.bytes, version))
     })
 }
 

@@ -9,7 +9,10 @@ pub struct Opened<'a> {
     pub case: &'a Case<'a>,
     pub section: &'a [u8],
     pub model: Result<Section<'a>, Refusal>,
-    /// What `parse` gives; made up where it refuses.
+    /// The same where the version is 1; else what the lists would give, which is what the calls that
+    /// don't read the header are asked for.
+    pub listed: Result<Section<'a>, Refusal>,
+    /// What the header names; made up where it can't be had.
     pub lists: Lists,
     rust: [Option<Box<dyn View<'a> + 'a>>; 3],
 }
@@ -17,12 +20,13 @@ pub struct Opened<'a> {
 impl<'a> Opened<'a> {
     pub fn new(case: &'a Case<'a>) -> Self {
         let section = case.section();
-        let model = Section::parse(section);
+        let listed = Section::of_any_version(section);
         Opened {
             case,
             section,
-            lists: model.as_ref().map_or(Lists::default(), Section::lists),
-            model,
+            lists: listed.as_ref().map_or(Lists::default(), Section::lists),
+            model: Section::parse(section),
+            listed,
             rust: BUILDS.each_ref().map(|build| (build.open)(section)),
         }
     }

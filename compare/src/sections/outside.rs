@@ -1,14 +1,16 @@
-//! Answers outside the domain of the comparison, counted by their reason. On the domain no function
-//! is refused with 13 or 14, and the keys that a lookup searches rise strictly.
+//! Answers outside the domain of the comparison, counted by their reason. On the domain the header's
+//! version is 1, no function is refused with 13 or 14, and the keys that a lookup searches rise
+//! strictly.
 
 use super::case::{hex, Case};
 use crate::oracle::section::{Told, BUILDS};
 use std::collections::BTreeMap;
-use std::fmt::Display;
+use std::fmt::{Debug, Display};
 
 /// Why an answer lies outside the domain.
 #[derive(Clone, Copy, PartialEq, Eq, PartialOrd, Ord)]
 pub enum Reason {
+    Version,
     KeysDoNotRise,
     Refusal13,
     Refusal14,
@@ -19,6 +21,7 @@ impl Reason {
     /// model's, never the Rust's.
     pub fn of(build: usize, keys_rise: bool, refusal: u32) -> Option<Reason> {
         match refusal {
+            15 => Some(Reason::Version),
             13 if !BUILDS[build].checks_sums => Some(Reason::Refusal13),
             _ if !keys_rise => Some(Reason::KeysDoNotRise),
             14 if !BUILDS[build].checks_sums => Some(Reason::Refusal14),
@@ -28,6 +31,7 @@ impl Reason {
 
     fn name(self) -> &'static str {
         match self {
+            Reason::Version => "another version",
             Reason::KeysDoNotRise => "keys don't rise",
             Reason::Refusal13 => "13",
             Reason::Refusal14 => "14",
@@ -35,7 +39,7 @@ impl Reason {
     }
 
     /// Where keys don't rise, a panic that stands for our refusal is no difference of the search.
-    fn seen(self, theirs: Told) -> Told {
+    pub fn seen(self, theirs: Told) -> Told {
         match self {
             Reason::KeysDoNotRise => theirs.with_panic_as_refusal(),
             _ => theirs,
@@ -62,15 +66,15 @@ struct Smallest {
 }
 
 impl Outside {
-    pub fn count(
+    pub fn count<A: PartialEq + Debug>(
         &mut self,
         group: Group,
         (case, question): (&Case, &dyn Display),
-        (ours, theirs): (Told, Told),
+        (ours, theirs): (A, A),
     ) {
         let seen = self.0.entry(group).or_default();
         seen.asked += 1;
-        if ours == group.0.seen(theirs) {
+        if ours == theirs {
             return;
         }
         seen.different += 1;
@@ -85,7 +89,7 @@ impl Outside {
 
     pub fn print(&self) {
         println!(
-            "outside the domain, where the Rust wraps, panics or searches otherwise; not counted:"
+            "outside the domain, where the Rust wraps, panics, searches otherwise or reads another version; not counted:"
         );
         for ((reason, what, build), seen) in &self.0 {
             println!(

@@ -18,15 +18,15 @@ pub struct Found {
 
 /// At every address that the sections are asked at.
 pub fn for_each(opened: &Opened, random: &mut Random, mut ask: impl FnMut(&Found)) {
-    let mut keys = Keys::new(&opened.model);
-    for address in questions::addresses(&opened.model, random) {
+    let mut keys = Keys::new(&opened.listed);
+    for address in questions::addresses(&opened.listed, random) {
         ask(&found(opened, &mut keys, address));
     }
 }
 
 fn found(opened: &Opened, keys: &mut Keys, address: u32) -> Found {
     let model = model::lookup(&opened.model, address);
-    let keys_rise = keys.rise(&opened.model, address);
+    let keys_rise = keys.rise(&opened.listed, address);
     let mut rust = [None; 3];
     for (build, view) in opened.views() {
         if Reason::of(build, keys_rise, model.refusal.into()).is_none() {

@@ -6,7 +6,7 @@
 // bytes. A record is a tag, its section's place and length, how many bytes the call takes, the line's name in 20 bytes, and these bytes.
 // Each file here says what its tags have. What is missing is 0.
 //
-// The file `stdin` has 415 records of 18 exports, each refusal that they can give among them. The lines in `stdout` are the second reader's and
+// The file `stdin` has 434 records of 18 exports, each refusal that they can give among them. The lines in `stdout` are the second reader's and
 // the Rust's, and never our own; where both answer, they say the same. Both files were made by
 //
 //   compare/run record-exports crates/replay_exports

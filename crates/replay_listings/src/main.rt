@@ -1,10 +1,10 @@
 // Reads inputs of the program that lists functions, and writes the listing of each. It compares nothing: the gate compares what is written
 // with the file `stdout`, so a wrong byte anywhere fails it, and there are no controls.
 //
-// An input is its length, a little-endian number of 32 bits, and its bytes. The file `stdin` has 19 of them: no bytes; 27 and 28 zeros; S, its
-// first 79 bytes, and S with too many global opcodes and with too many pages; refused pages and functions between listed ones; several
-// blocks; 65,535, 65,536 and 65,537 bytes; seven real sections. So 1, 2, 3 and 30 come up. The listings in `stdout` are the second reader's
-// (compare/src/model.rs). Both were made by
+// An input is its length, a little-endian number of 32 bits, and its bytes. The file `stdin` has 22 of them: no bytes; 27 and 28 zeros; a header without
+// lists; S, its first 79 bytes, and S with two other versions, with too many global opcodes and with too many pages; refused pages and
+// functions between listed ones; several blocks; 65,535, 65,536 and 65,537 bytes; seven real sections. So 1, 2, 3, 15 and 30 come up. The
+// listings in `stdout` are the second reader's (compare/src/model.rs). Both were made by
 //
 //   compare/run record-listings crates/replay_listings
 use libc::STDIN_FILENO;

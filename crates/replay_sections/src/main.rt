@@ -11,8 +11,8 @@
 //   5 well formed        0, 0           1 or 0, and zeros
 //   101 to 105           their controls
 //
-// Outcome is 0 for none or the end, 1 for a function, 2 for a refusal; of a parse and a range 1, or 2 for a refusal. The file `stdin` has 61
-// sections: S, named cases, real ones and damaged ones; 610 questions, of which 436 answers are also the Rust's; and 84 controls. The other
+// Outcome is 0 for none or the end, 1 for a function, 2 for a refusal; of a parse and a range 1, or 2 for a refusal. The file `stdin` has 64
+// sections: S, named cases, real ones and damaged ones; 601 questions, of which 402 answers are also the Rust's; and 84 controls. The other
 // answers (probes, cursors, whether it is well formed, what lies outside the Rust's domain) are the second reader's, which is written from
 // docs/FORMAT.md's rules and not from this code (compare/src/model.rs). It was made by
 //

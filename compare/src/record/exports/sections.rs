@@ -335,7 +335,7 @@ fn named(out: &mut Files, trap: &Trap) -> Result<()> {
     for &(question, answer) in &trap.answers {
         agreed(trap.name, question.model(&trap.section), answer)?;
         let case = case(answer[0], answer[1]);
-        // By given lists a header is not read.
+        // By given lists a header is not read, and so neither its version.
         let in_lists = case != 201;
         match question {
             Question::Lookup(address) if in_lists && !out.has_met(&calls::LOOKUP_IN, case) => {

@@ -24,7 +24,7 @@ impl Checks {
                 cursor = self.fill(opened, cursor, room);
             }
         }
-        for cursor in questions::cursors(&opened.model, random) {
+        for cursor in questions::cursors(&opened.listed, random) {
             let room = random.below(20) as usize;
             self.fill(opened, cursor, room);
         }
@@ -34,23 +34,24 @@ impl Checks {
     fn fill(&mut self, opened: &Opened, cursor: Cursor, room: usize) -> Cursor {
         let question = format_args!("fill {room} from {cursor:?}");
         let input = || opened.case.asked(question);
-        let before: Vec<u32> = (0..(room + AFTER) as u32).map(|i| !i).collect();
-        let mut theirs = before.clone();
-        let model = model::fill(&opened.model, cursor, &mut theirs[..room]);
-        let mut check = |answer: FillAnswer, list: &[u32]| {
-            let [number, their_number] = first_different(list, &theirs);
-            let told = (model, their_number);
-            self.fill.check(input, (answer, number), told);
+        let mut check = |section, fill: &dyn Fn(&mut [u32]) -> FillAnswer| {
+            let mut list: Vec<u32> = (0..(room + AFTER) as u32).map(|i| !i).collect();
+            let mut theirs = list.clone();
+            let model = model::fill(section, cursor, &mut theirs[..room]);
+            let answer = fill(&mut list[..room]);
+            let [number, their_number] = first_different(&list, &theirs);
+            self.fill
+                .check(input, (answer, number), (model, their_number));
+            (model.page, model.index)
         };
-        let mut list = before.clone();
-        let answer = ours::fill(opened.section, cursor, &mut list[..room]);
-        check(answer, &list);
-        if opened.model.is_ok() {
-            list.copy_from_slice(&before);
-            let answer = ours::fill_in(opened.section, opened.lists, cursor, &mut list[..room]);
-            check(answer, &list);
+        if opened.listed.is_ok() {
+            check(&opened.listed, &|list| {
+                ours::fill_in(opened.section, opened.lists, cursor, list)
+            });
         }
-        (model.page, model.index)
+        check(&opened.model, &|list| {
+            ours::fill(opened.section, cursor, list)
+        })
     }
 }
 

@@ -35,8 +35,9 @@ impl Checks {
         let answer = ours::next(opened.section, cursor);
         let model = model::next(&opened.model, cursor);
         self.iteration.model.check(input, answer, model);
-        if opened.model.is_ok() {
+        if opened.listed.is_ok() {
             let again = ours::next_in(opened.section, opened.lists, cursor);
+            let model = model::next(&opened.listed, cursor);
             self.iteration.model.check(input, again, model);
         }
         for (build, functions) in rust {
@@ -54,13 +55,14 @@ impl Checks {
     }
 
     pub(super) fn cursors(&mut self, opened: &Opened, random: &mut Random) {
-        for cursor in questions::cursors(&opened.model, random) {
+        for cursor in questions::cursors(&opened.listed, random) {
             let input = || opened.case.asked(format_args!("next {cursor:?}"));
             let model = model::next(&opened.model, cursor);
             let answer = ours::next(opened.section, cursor);
             self.cursors.check(input, answer, model);
-            if opened.model.is_ok() {
+            if opened.listed.is_ok() {
                 let answer = ours::next_in(opened.section, opened.lists, cursor);
+                let model = model::next(&opened.listed, cursor);
                 self.cursors.check(input, answer, model);
             }
         }

@@ -30,7 +30,7 @@ impl Given<'_> {
 
 impl Checks {
     pub(super) fn lists(&mut self, opened: &Opened, random: &mut Random) {
-        for lists in questions::lists(&opened.model, random) {
+        for lists in questions::lists(&opened.listed, random) {
             let given = Given {
                 case: opened.case,
                 section: opened.section,

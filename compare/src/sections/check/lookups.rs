@@ -19,8 +19,8 @@ pub struct LookedUp {
 
 impl Checks {
     pub(super) fn lookups(&mut self, opened: &Opened, random: &mut Random) -> Vec<LookedUp> {
-        let mut keys = Keys::new(&opened.model);
-        questions::addresses(&opened.model, random)
+        let mut keys = Keys::new(&opened.listed);
+        questions::addresses(&opened.listed, random)
             .into_iter()
             .map(|address| self.lookup(opened, &mut keys, address))
             .collect()
@@ -32,11 +32,12 @@ impl Checks {
         let answer = ours::lookup(opened.section, address);
         let model = model::lookup(&opened.model, address);
         self.lookup.model.check(input, answer, model);
-        if opened.model.is_ok() {
+        if opened.listed.is_ok() {
             let again = ours::lookup_in(opened.section, opened.lists, address);
+            let model = model::lookup(&opened.listed, address);
             self.lookup.model.check(input, again, model);
         }
-        let known = (keys.rise(&opened.model, address), model.refusal.into());
+        let known = (keys.rise(&opened.listed, address), model.refusal.into());
         for (build, view) in opened.views() {
             let told = (Told::from(answer), view.lookup(address));
             self.lookup.told(

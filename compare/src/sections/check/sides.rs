@@ -4,7 +4,7 @@ use crate::oracle::section::{Told, BUILDS};
 use crate::sections::case::Case;
 use crate::sections::outside::{Outside, Reason};
 use crate::tally::{Report, Tally};
-use std::fmt::Display;
+use std::fmt::{Debug, Display};
 
 pub struct Sides {
     name: &'static str,
@@ -37,15 +37,33 @@ impl Sides {
         (keys_rise, refusal): (bool, u32),
         (ours, theirs): (Told, Told),
     ) {
-        if let Some(reason) = Reason::of(build, keys_rise, refusal) {
-            let group = (reason, self.name, BUILDS[build].name);
-            return outside.count(group, (case, question), (ours, theirs));
-        }
-        // The build that checks sums panics exactly where ours refuses with 13 and 14.
-        let theirs = match refusal {
-            13 | 14 => theirs.with_panic_as_refusal(),
-            _ => theirs,
+        let reason = Reason::of(build, keys_rise, refusal);
+        let theirs = match (reason, refusal) {
+            (Some(reason), _) => reason.seen(theirs),
+            // The build that checks sums panics exactly where ours refuses with 13 and 14.
+            (None, 13 | 14) => theirs.with_panic_as_refusal(),
+            (None, _) => theirs,
         };
-        self.rust[build].check(|| case.asked(question), ours, theirs);
+        self.compared(outside, (case, question), build, reason, (ours, theirs));
+    }
+
+    /// The same of any answer, by the reason for which it lies outside of the domain.
+    pub fn compared<A: PartialEq + Debug>(
+        &mut self,
+        outside: &mut Outside,
+        (case, question): (&Case, &dyn Display),
+        build: usize,
+        reason: Option<Reason>,
+        (ours, theirs): (A, A),
+    ) {
+        match reason {
+            Some(reason) => {
+                let group = (reason, self.name, BUILDS[build].name);
+                outside.count(group, (case, question), (ours, theirs));
+            }
+            None => {
+                self.rust[build].check(|| case.asked(question), ours, theirs);
+            }
+        }
     }
 }

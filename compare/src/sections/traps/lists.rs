@@ -1,12 +1,29 @@
-//! The two lists of the header: sums that would wrap, and reads of 0 bytes.
+//! The header: other versions; its two lists, with sums that would wrap, and reads of 0 bytes.
 
 use super::*;
 
 pub fn traps() -> Vec<Trap> {
-    let mut traps = would_wrap();
+    let mut traps = other_versions();
+    traps.extend(would_wrap());
     traps.extend(unreadable());
     traps.extend([no_globals(), no_pages(), most_globals()]);
     traps
+}
+
+/// The third is 1 as big-endian; in the last one 15 comes before 2.
+fn other_versions() -> Vec<Trap> {
+    let version = |number| u32_at(at::VERSION, number);
+    vec![
+        refused_by("version 0", 15, [version(0)]),
+        refused_by("version 2", 15, [version(2)]),
+        refused_by("version 0x01000000", 15, [version(0x0100_0000)]),
+        refused_by("version 0xffffffff", 15, [version(0xffff_ffff)]),
+        refused_by(
+            "version 257, global opcodes unreadable",
+            15,
+            [version(257), u32_at(at::GLOBALS_LEN, 14)],
+        ),
+    ]
 }
 
 fn would_wrap() -> Vec<Trap> {
@@ -47,7 +64,7 @@ fn pages(offset: u32, len: u32) -> [Edit; 2] {
     [u32_at(at::PAGES_OFFSET, offset), u32_at(at::PAGES_LEN, len)]
 }
 
-/// S with other lists: all questions are refused, and no cursor moves.
+/// S with another header: all questions are refused, and no cursor moves.
 fn refused_by<const N: usize>(name: &'static str, refusal: u32, edits: [Edit; N]) -> Trap {
     trap(
         name,

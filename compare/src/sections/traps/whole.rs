@@ -5,7 +5,6 @@ use super::*;
 pub fn traps() -> Vec<Trap> {
     vec![
         s_itself(),
-        like_s("version 7", s_with([u32_at(at::VERSION, 7)])),
         like_s(
             "personalities that can't be read",
             s_with([
@@ -27,7 +26,11 @@ pub fn traps() -> Vec<Trap> {
         ),
         cut_by_one(),
         one_page_entry(),
-        short_header(),
+        short_header("a header of 27 bytes", s()),
+        short_header(
+            "a header of 27 bytes, version 2",
+            s_with([u32_at(at::VERSION, 2)]),
+        ),
     ]
 }
 
@@ -100,10 +103,11 @@ fn one_page_entry() -> Trap {
     )
 }
 
-fn short_header() -> Trap {
+/// 1 comes before 15.
+fn short_header(name: &'static str, section: Vec<u8>) -> Trap {
     trap(
-        "a header of 27 bytes",
-        s()[..27].to_vec(),
+        name,
+        section[..27].to_vec(),
         [
             parse_refused(1),
             range_refused(1),
