@@ -10,7 +10,7 @@ mod sides;
 use super::case::Case;
 use super::opened::Opened;
 use super::outside::{Outside, Reason};
-use crate::ffi::section as ours;
+use crate::ffi::section::{self as ours, RangeAnswer};
 use crate::model;
 use crate::oracle::section::BUILDS;
 use crate::random::Random;
@@ -105,12 +105,18 @@ impl Checks {
             self.range.model.check(input, again, model);
         }
         for (build, view) in opened.views() {
+            let (start, end) = view.address_range();
+            let theirs = RangeAnswer {
+                refusal: 0,
+                start,
+                end,
+            };
             self.range.compared(
                 &mut self.outside,
                 (opened.case, &"address range"),
                 build,
                 Reason::of(build, true, model.refusal),
-                ((answer.start, answer.end), view.address_range()),
+                (answer, theirs),
             );
         }
     }
