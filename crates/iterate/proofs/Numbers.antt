@@ -1,6 +1,6 @@
 -- A cursor's call and the address range say 15 exactly if the header is there and its version isn't 1, and on lists that anyone names never.
 -- Assumes nothing.
-use Prim.Native.Nat.{ℕ, zero, suc, _+_, _-_, _≤_}
+use Prim.Native.Nat.{ℕ, zero, suc, _+_, _≤_}
 use mathlib.Core.Path.{_≡_, refl}
 use mathlib.Core.Bool.{Bool, true, false, cond}
 use mathlib.Core.Logic.{_↔_}
@@ -13,7 +13,7 @@ use Rattle.raw.specs.Checked.{Checked, good, refused, either}
 use Rattle.raw.specs.Raw.{versionOf}
 use Rattle.raw.proofs.Numbers.{Behind, only-15, exactly-15, never-15-in}
 use Rattle.entries.specs.declared.Function.{Function}
-use Rattle.entries.specs.Section.{openedAt, functionAt}
+use Rattle.entries.specs.Section.{functionAt}
 use Rattle.entries.proofs.Numbers.{of-function-at, of-opened-at}
 use Rattle.iterate.specs.declared.Cursor.{Cursor}
 use Rattle.iterate.specs.declared.Range.{Range}
