@@ -946,51 +946,52 @@ static void nothing_lent(void)
     IS(number[0], 0xeeeeeeee);
 }
 
-/* A section with another version than 1: every call that reads the header says 15 and nothing else,
- * whatever the rest is, and every other call answers as if the version were 1. */
+/* Every call that reads the header says 15, and nothing else. */
+static void is_of_another_version(const uint8_t *section, size_t len)
+{
+    const uint8_t n = BRASSPURSE_REFUSED_WRONG_VERSION;
+    const uint32_t addresses[5] = {0x1040, 0x1000, 0x0fff, 0x1100, 0x1040};
+    const struct brasspurse_registers_x86_64 x = x86_64(0x7000, 0x7030);
+    const struct brasspurse_registers_arm64 a = arm64(0x8000, 0x8090);
+    uint32_t out[26];
+
+    IS(brasspurse_parse(section, len).refusal, n);
+    IS(brasspurse_parse(section, len).pages_len, 0);
+    IS(brasspurse_address_range(section, len).refusal, n);
+    IS(brasspurse_is_well_formed(section, len), false);
+    IS_LOOKUP(brasspurse_lookup(section, len, 0x1040), 0, 0, 0, 0, BRASSPURSE_LOOKUP_REFUSED, n);
+    memset(out, 0xee, sizeof out);
+    IS(brasspurse_lookup_batch(section, len, addresses, 5, out, 26), 5);
+    for (size_t k = 0; k < 5; k++)
+        IS_LOOKUP(brasspurse_batch_answer(out, k), 0, 0, 0, 0, BRASSPURSE_LOOKUP_REFUSED, n);
+    IS(out[20], 0xeeeeeeee);
+    IS_NEXT(brasspurse_next(section, len, 5, 7), 0, 0, 0, 5, 7, BRASSPURSE_NEXT_REFUSED, n);
+    memset(out, 0xee, sizeof out);
+    for (size_t room = 0; room < 26; room += 5)
+        IS_FILL(brasspurse_fill(section, len, 5, 7, out, room), 0, 5, 7, BRASSPURSE_FILL_REFUSED,
+                n);
+    IS_LISTED(out, 0, 0);
+    IS_UNWIND_X86_64(brasspurse_unwind_x86_64(section, len, 0x1010, x, 0x7000, fields_frame, 64),
+                     n, 0, 0, x);
+    IS_UNWIND_ARM64(brasspurse_unwind_arm64(section, len, 0x1010, a, 0x8000, pairs_frame, 160), n,
+                    0, 0, a);
+}
+
+/* S with another version: whole, without its page entries, and its header alone; then 1. The calls
+ * that do not read the header answer as of S. */
 static void versions(void)
 {
     const uint32_t others[] = {0, 2, 256, 0x01000000, UINT32_MAX};
-    const uint32_t addresses[5] = {0x1040, 0x1000, 0x0fff, 0x1100, 0x1040};
     const struct brasspurse_lists lists = {28, 1, 32, 2};
-    const struct brasspurse_registers_x86_64 x = x86_64(0x7000, 0x7030);
-    const struct brasspurse_registers_arm64 a = arm64(0x8000, 0x8090);
     uint8_t section[sizeof S];
     uint32_t out[26];
 
     memcpy(section, S, sizeof S);
     for (size_t i = 0; i < sizeof others / sizeof others[0]; i++) {
-        const uint8_t n = BRASSPURSE_REFUSED_WRONG_VERSION;
-
         put(section, 0, others[i]);
-        /* With the whole section, without its pages, without its lists: 15; then 1. */
-        for (size_t len = 80; len > 20; len -= 26) {
-            IS(brasspurse_parse(section, len).refusal, n);
-            IS(brasspurse_parse(section, len).pages_len, 0);
-            IS(brasspurse_address_range(section, len).refusal, n);
-            IS(brasspurse_is_well_formed(section, len), false);
-            IS_LOOKUP(brasspurse_lookup(section, len, 0x1040), 0, 0, 0, 0,
-                      BRASSPURSE_LOOKUP_REFUSED, n);
-            memset(out, 0xee, sizeof out);
-            IS(brasspurse_lookup_batch(section, len, addresses, 5, out, 26), 5);
-            for (size_t k = 0; k < 5; k++)
-                IS_LOOKUP(brasspurse_batch_answer(out, k), 0, 0, 0, 0, BRASSPURSE_LOOKUP_REFUSED,
-                          n);
-            IS(out[20], 0xeeeeeeee);
-            IS_NEXT(brasspurse_next(section, len, 5, 7), 0, 0, 0, 5, 7, BRASSPURSE_NEXT_REFUSED,
-                    n);
-            memset(out, 0xee, sizeof out);
-            for (size_t room = 0; room < 26; room += 5)
-                IS_FILL(brasspurse_fill(section, len, 5, 7, out, room), 0, 5, 7,
-                        BRASSPURSE_FILL_REFUSED, n);
-            IS_LISTED(out, 0, 0);
-            IS_UNWIND_X86_64(
-                brasspurse_unwind_x86_64(section, len, 0x1010, x, 0x7000, fields_frame, 64), n, 0,
-                0, x);
-            IS_UNWIND_ARM64(
-                brasspurse_unwind_arm64(section, len, 0x1010, a, 0x8000, pairs_frame, 160), n, 0,
-                0, a);
-        }
+        is_of_another_version(section, 80);
+        is_of_another_version(section, 32);
+        is_of_another_version(section, 28);
         IS(brasspurse_parse(section, 27).refusal, BRASSPURSE_REFUSED_HEADER);
 
         IS(brasspurse_address_range_in(section, 80, lists).end, 0x1100);

@@ -18,12 +18,12 @@ use Rattle.raw.proofs.Numbers.{said-15, number-of}
 use Rattle.listing.specs.Listing.{linesOf, refusedOf, endOf, Told, written, over, wholeOf, linesIn}
 use Rattle.fill.specs.declared.Filled.{Filled}
 use Rattle.fill.specs.declared.Stop.{Stop}
-use Rattle.fill.specs.Fill.{Why, full, ended, refusal, Taken, takenOf, numbersOf, writtenOver, Outcome as Filling, outcome, fillIn, whyOf, filledTold}
+use Rattle.fill.specs.Fill.{ended, Taken, takenOf, writtenOver, Outcome as Filling, outcome, fillIn, whyOf, filledTold}
 use Rattle.fill.proofs.Left.{few, told}
 use Rattle.lister.specs.declared.Place.{Place}
 use Rattle.lister.specs.declared.Accepted.{Accepted}
 use Rattle.lister.specs.Lister.{acceptedOf, answersText, listingOf}
-use Rattle.lister.specs.Block.{placeAt, Outcome, put, roomIn, counted, stopText, isEnd, takenBlock, refusedBlock, blockOf, acceptedTold}
+use Rattle.lister.specs.Block.{placeAt, Outcome, roomIn, counted, stopText, isEnd, takenBlock, blockOf, acceptedTold}
 use Rattle.lister.proofs.Texts.{fits-whole, length-end, length-refused, length-functions, lines-are, bytes-of, starts-inside, fewer-bytes, behind}
 
 -- an input of at most 65,536 bytes is listed as it parses

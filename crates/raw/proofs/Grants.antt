@@ -59,15 +59,15 @@ module _ (s : List ℕ) where
   unfolding parseOf
   no-header t = simp t
 
-  pub other-version : (v : ℕ) → grantedOf 28 s 0 ≡ true → v ≡ wordAt 4 s 0 → (v ≡ 1 → ⊥) → refused 15 ≡ parseOf s
+  pub other-version : grantedOf 28 s 0 ≡ true → (versionOf s ≡ 1 → ⊥) → refused 15 ≡ parseOf s
   unfolding parseOf
-  other-version v t ev h = simp (t, sym ev, ne-eqb v 1 h)
+  other-version t h = simp (t, ne-eqb _ _ h)
 
-  pub header-read : (w : Checked Lists) (v a g b n : ℕ) → grantedOf 28 s 0 ≡ true → v ≡ wordAt 4 s 0 → v ≡ 1
+  pub header-read : (w : Checked Lists) (a g b n : ℕ) → grantedOf 28 s 0 ≡ true → versionOf s ≡ 1
       → a ≡ wordAt 4 s 4 → g ≡ wordAt 4 s 8 → b ≡ wordAt 4 s 20 → n ≡ wordAt 4 s 24
       → w ≡ grantOf s (record { «global_opcodes_offset» = a; «global_opcodes_len» = g; «pages_offset» = b; «pages_len» = n }) → w ≡ parseOf s
   unfolding parseOf headerOf
-  header-read w v a g b n t ev h ea eg eb en e = e ∙ simp (t, sym ev, eq-eqb v 1 h, sym ea, sym eg, sym eb, sym en)
+  header-read w a g b n t h ea eg eb en e = e ∙ simp (t, eq-eqb _ _ h, sym ea, sym eg, sym eb, sym en)
 
   -- after a parse the version is 1, and the lists are granted
   passed : (l : Lists) → parseOf s ≡ good l → (versionOf s ≡ 1) × (grantOf s l ≡ good l)

@@ -6,7 +6,7 @@ use mathlib.Core.Bool.{Bool, true, false, cond, _&&_}
 use mathlib.Core.Logic.{_↔_}
 use mathlib.Core.List.{List}
 use native.Mathlib.Omega.{arith}
-use borrow.Author.Tests.{eqb-false, ne-eqb}
+use borrow.Author.Tests.{eqb-false}
 use lib.Dec.{eqb, ltb}
 use lib.ListN.{length, drop}
 use Rattle.reader.specs.Reader.{grantedOf, wordAt}
@@ -16,6 +16,7 @@ use Rattle.raw.specs.declared.Lists.{Lists}
 use Rattle.raw.specs.declared.Page.{Page}
 use Rattle.raw.specs.Checked.{Checked, good, refused, _>>=_, _>>_, either, check, numberOf}
 use Rattle.raw.specs.Raw.{grantOf, versionOf, headerOf, parseOf, regularOf, compressedOf, byKind, pageOf, localsGranted, openOf}
+use Rattle.raw.proofs.Grants.{other-version}
 
 -- a number of those behind the header's: 2 to 14
 abbrev pub behind : ℕ → Bool
@@ -93,8 +94,7 @@ module _ (s : List ℕ) where
       by false p d q r = absurd (let z : _≡_ {A = ℕ} 0 1 = cc in omega arith)
 
   pub said-15 : 28 ≤ length s → (versionOf s ≡ 1 → ⊥) → parseOf s ≡ refused 15
-  unfolding parseOf
-  said-15 h v = simp (grants 28 s 0 h, ne-eqb _ _ v)
+  said-15 h v = sym (other-version s (grants 28 s 0 h) v)
 
   pub fifteen : (parseOf s ≡ refused 15) ↔ ((28 ≤ length s) × (versionOf s ≡ 1 → ⊥))
   fifteen = (says-15, λ p. said-15 (p .0) (p .1))
