@@ -5,12 +5,12 @@
     c/agree.py DEFINED CALLED   to the library and the test too
 
 Compared with the sources in crates/ are the functions, their parameters and what they return,
-every field of every struct, in their order, and the refusals' names and numbers; each of these
-must have a text of its own in brasspurse_refusal_text. The header's version must be that of
-rust/Cargo.toml and the newest of CHANGELOG.md. DEFINED is the output of `nm -P` on what libbrasspurse.a
-defines, CALLED on what the test's object takes from elsewhere: with these, the functions' names
-are compared. What differs is printed, and the exit status is 1. So it is for a line of either side
-that is not understood.
+every field of every struct, in their order, the numbers of the origins, and the refusals' names and
+numbers; each refusal must have a text of its own in brasspurse_refusal_text. The header's version
+must be that of rust/Cargo.toml and the newest of CHANGELOG.md. DEFINED is the output of `nm -P` on
+what libbrasspurse.a defines, CALLED on what the test's object takes from elsewhere: with these, the
+functions' names are compared. What differs is printed, and the exit status is 1. So it is for a
+line of either side that is not understood.
 """
 
 import re
@@ -29,6 +29,9 @@ SCALARS = {
     "usize": "size_t",
     "bool": "bool",
 }
+
+# The header's names for the sources' origins.
+ORIGINS = {"Regular": "REGULAR_ENTRY", "Global": "GLOBAL_OPCODES", "Local": "LOCAL_OPCODES"}
 
 # The only lines for the preprocessor, so that none hides a declaration.
 DIRECTIVE = re.compile(
@@ -379,12 +382,25 @@ def found(path, pattern):
     return place[1]
 
 
+def numbered(source):
+    """What `fn number` gives in a crate's source: pairs of a name and a number."""
+    body = found(source, r"fn number\(self\)(.*?)^    }$")
+    for name, number in re.findall(r"::(\w+)[^=\n]*=> (\d+),", body):
+        yield name, int(number)
+
+
+def origins(crates):
+    """The sources' origins as the header names them; it has one more, for no function."""
+    yield "ORIGIN_NONE", 0
+    for name, number in numbered(crates / "entries/src/lib.rt"):
+        yield "ORIGIN_" + ORIGINS.get(name, snake(name).upper()), number
+
+
 def refusals(crates):
     """The sources' refusals as the header names them: pairs of a name and a number."""
     for crate in ("raw", "rules"):
-        body = found(crates / crate / "src/lib.rt", r"fn number\(self\)(.*?)^    }$")
-        for name, number in re.findall(r"::(\w+)[^=\n]*=> (\d+),", body):
-            yield "REFUSED_" + snake(name).upper(), int(number)
+        for name, number in numbered(crates / crate / "src/lib.rt"):
+            yield "REFUSED_" + snake(name).upper(), number
     for name, crate, pattern in (
         ("NOT_REFUSED", "rules", r"Outcome::Answered => (\d+),"),
         ("REFUSED_INVALID_FRAMELESS", "permutation", r"Decoded::Refused => (\d+),"),
@@ -394,13 +410,18 @@ def refusals(crates):
         yield name, int(found(crates / crate / "src/lib.rt", pattern))
 
 
-def wrong_refusals(header, crates):
-    """Lines on refusals that the header has otherwise than the sources, or without their text."""
-    here = header.enums["brasspurse_refusal"]
-    there = {("BRASSPURSE_" + name, number) for name, number in refusals(crates)}
+def alone(there, here):
+    """Lines on names with numbers that `there`, the sources, or `here`, an enum, alone has."""
+    there = {("BRASSPURSE_" + name, number) for name, number in there}
     for name, number in sorted(there ^ set(here)):
         place = "the header" if (name, number) in here else "the sources"
         yield f"{name} = {number} is in {place} alone"
+
+
+def wrong_refusals(header, crates):
+    """Lines on refusals that the header has otherwise than the sources, or without their text."""
+    here = header.enums["brasspurse_refusal"]
+    yield from alone(refusals(crates), here)
     body = header.inlines["brasspurse_refusal_text"]
     texts = re.findall(r'case (\w+) : return ("[^"]+") ;', body)
     if [name for name, _ in texts] != [name for name, _ in here]:
@@ -439,6 +460,7 @@ def main():
     lines = [
         *differences("function", library.functions, header.functions, "the sources"),
         *differences("struct", library.structs, header.structs, "the sources"),
+        *alone(origins(CRATES), header.enums["brasspurse_origin"]),
         *wrong_refusals(header, CRATES),
         *wrong_versions(header),
     ]

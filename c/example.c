@@ -39,6 +39,20 @@ static uint8_t *read_file(const char *name, size_t *len)
     return bytes;
 }
 
+static const char *origin_text(uint8_t origin)
+{
+    switch (origin) {
+    case BRASSPURSE_ORIGIN_REGULAR_ENTRY:
+        return "its own entry";
+    case BRASSPURSE_ORIGIN_GLOBAL_OPCODES:
+        return "the global opcodes";
+    case BRASSPURSE_ORIGIN_LOCAL_OPCODES:
+        return "the page's local opcodes";
+    default:
+        return "nowhere";
+    }
+}
+
 static void look_up(const uint8_t *section, size_t len, uint32_t address)
 {
     struct brasspurse_lookup_answer found = brasspurse_lookup(section, len, address);
@@ -48,6 +62,8 @@ static void look_up(const uint8_t *section, size_t len, uint32_t address)
     case BRASSPURSE_LOOKUP_FUNCTION:
         printf("in %08" PRIx32 " to %08" PRIx32 ", opcode %08" PRIx32 "\n", found.start, found.end,
                found.opcode);
+        printf("          page %" PRIu32 ", index %u, opcode from %s\n", found.page,
+               (unsigned)found.index, origin_text(found.origin));
         break;
     case BRASSPURSE_LOOKUP_NONE:
         printf("in no function\n");

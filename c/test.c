@@ -17,8 +17,8 @@
 SIZE(lists, 16);
 SIZE(parse_answer, 20);
 SIZE(range_answer, 12);
-SIZE(lookup_answer, 16);
-SIZE(next_answer, 24);
+SIZE(lookup_answer, 24);
+SIZE(next_answer, 32);
 SIZE(fill_answer, 24);
 SIZE(register_answer, 8);
 SIZE(opcode_x86_64_answer, 12);
@@ -35,16 +35,25 @@ SIZE(unwind_x86_64_answer, 80);
 SIZE(unwind_arm64_answer, 192);
 SIZE(read_answer, 16);
 
-PLACE(lookup_answer, probes, 12);
-PLACE(lookup_answer, outcome, 14);
-PLACE(lookup_answer, refusal, 15);
+PLACE(lookup_answer, page, 12);
+PLACE(lookup_answer, index, 16);
+PLACE(lookup_answer, origin, 20);
+PLACE(lookup_answer, probes, 21);
+PLACE(lookup_answer, outcome, 22);
+PLACE(lookup_answer, refusal, 23);
+PLACE(next_answer, function_page, 20);
+PLACE(next_answer, function_index, 24);
+PLACE(next_answer, origin, 28);
+PLACE(next_answer, outcome, 29);
+PLACE(next_answer, refusal, 30);
 PLACE(rule_x86_64_answer, below, 20);
 PLACE(rule_arm64_answer, below, 20);
 PLACE(unwind_x86_64_answer, registers, 16);
 PLACE(unwind_arm64_answer, registers, 16);
 PLACE(read_answer, value, 8);
 
-/* The refusals' numbers (docs/FORMAT.md, 11). The calls below hold the library to these names. */
+/* The numbers of the refusals (docs/FORMAT.md, 11) and of the origins. The calls below hold the
+ * library to these names. */
 
 #define NUMBER(name, number) ASSERT(name, BRASSPURSE_##name == (number))
 
@@ -75,6 +84,11 @@ NUMBER(REFUSED_OUTSIDE_WINDOW, 27);
 NUMBER(REFUSED_LIST, 28);
 NUMBER(REFUSED_INPUT_TOO_LONG, 30);
 
+NUMBER(ORIGIN_NONE, 0);
+NUMBER(ORIGIN_REGULAR_ENTRY, 1);
+NUMBER(ORIGIN_GLOBAL_OPCODES, 2);
+NUMBER(ORIGIN_LOCAL_OPCODES, 3);
+
 static unsigned checks, failed;
 
 static void same(int line, const char *what, uint64_t got, uint64_t expected)
@@ -104,6 +118,18 @@ static void same(int line, const char *what, uint64_t got, uint64_t expected)
 #define INDIRECT 0x032ab905
 #define PAIRS 0x040001ff
 
+/* What an answer says of a function, and where it has none. */
+struct function {
+    uint32_t start, end, opcode, page, index;
+    uint8_t origin;
+};
+
+static const struct function no_function = {0, 0, 0, 0, 0, BRASSPURSE_ORIGIN_NONE};
+
+#define REGULAR BRASSPURSE_ORIGIN_REGULAR_ENTRY
+#define GLOBAL BRASSPURSE_ORIGIN_GLOBAL_OPCODES
+#define LOCAL BRASSPURSE_ORIGIN_LOCAL_OPCODES
+
 /* Section S (docs/FORMAT.md, 2.8). */
 static const uint8_t S[80] = {
     U32(1), U32(28), U32(1), U32(32), U32(0), U32(32), U32(2),      /* header */
@@ -111,6 +137,11 @@ static const uint8_t S[80] = {
     U32(0x1000), U32(56), U32(0), U32(0x1100), U32(0), U32(0),      /* pages */
     U32(3), U16(12), U16(2), U16(20), U16(1),                       /* page 0, compressed */
     U32(0x00000000), U32(0x01000040), U32(0x02030800),
+};
+
+static const struct function s_functions[2] = {
+    {0x1000, 0x1040, 0x01010001, 0, 0, GLOBAL},
+    {0x1040, 0x1100, 0x02030800, 0, 1, LOCAL},
 };
 
 /* Three pages, so that cursors are not near 0. */
@@ -127,10 +158,11 @@ static const uint8_t T[172] = {
     U32(0x3000), U32(PUSHES), U32(0x3100), U32(0x00000009), U32(0x3700), U32(0x05000000),
 };
 
-static const uint32_t t_functions[8][3] = {
-    {0x1000, 0x1800, 0x01020001}, {0x1800, 0x2000, 0x01030002}, {0x2000, 0x2300, 0x04abcdef},
-    {0x2300, 0x2700, 0x01010001}, {0x2700, 0x3000, FIELDS},     {0x3000, 0x3100, PUSHES},
-    {0x3100, 0x3700, 0x00000009}, {0x3700, 0x4000, 0x05000000},
+static const struct function t_functions[8] = {
+    {0x1000, 0x1800, 0x01020001, 0, 0, REGULAR}, {0x1800, 0x2000, 0x01030002, 0, 1, REGULAR},
+    {0x2000, 0x2300, 0x04abcdef, 1, 0, GLOBAL},  {0x2300, 0x2700, 0x01010001, 1, 1, GLOBAL},
+    {0x2700, 0x3000, FIELDS, 1, 2, LOCAL},       {0x3000, 0x3100, PUSHES, 2, 0, REGULAR},
+    {0x3100, 0x3700, 0x00000009, 2, 1, REGULAR}, {0x3700, 0x4000, 0x05000000, 2, 2, REGULAR},
 };
 
 static const struct brasspurse_lists t_lists = {28, 3, 40, 4};
@@ -375,100 +407,110 @@ static void lists(void)
     IS(brasspurse_is_well_formed(S, 79), false);
 }
 
-static void is_lookup(int line, struct brasspurse_lookup_answer l, uint32_t start, uint32_t end,
-                      uint32_t opcode, uint16_t probes, uint8_t outcome, uint8_t refusal)
+static void is_lookup(int line, struct brasspurse_lookup_answer l, struct function f,
+                      uint8_t probes, uint8_t outcome, uint8_t refusal)
 {
-    same(line, "start", l.start, start);
-    same(line, "end", l.end, end);
-    same(line, "opcode", l.opcode, opcode);
+    same(line, "start", l.start, f.start);
+    same(line, "end", l.end, f.end);
+    same(line, "opcode", l.opcode, f.opcode);
+    same(line, "page", l.page, f.page);
+    same(line, "index", l.index, f.index);
+    same(line, "origin", l.origin, f.origin);
     same(line, "probes", l.probes, probes);
     same(line, "outcome", l.outcome, outcome);
     same(line, "refusal", l.refusal, refusal);
 }
 
-#define IS_LOOKUP(answer, ...) is_lookup(__LINE__, answer, __VA_ARGS__)
+#define IS_FOUND(answer, function, probes)                                                         \
+    is_lookup(__LINE__, answer, function, probes, BRASSPURSE_LOOKUP_FUNCTION, 0)
+#define IS_NONE(answer, probes)                                                                    \
+    is_lookup(__LINE__, answer, no_function, probes, BRASSPURSE_LOOKUP_NONE, 0)
+#define IS_REFUSED(answer, probes, number)                                                         \
+    is_lookup(__LINE__, answer, no_function, probes, BRASSPURSE_LOOKUP_REFUSED, number)
 
 static void lookups(void)
 {
+    /* By other lists: the same entries with other opcodes. */
+    const struct function second = {0x2300, 0x2700, 0x02030800, 1, 1, GLOBAL};
+    const struct function local = {0x2000, 0x2300, FIELDS, 1, 0, LOCAL};
     uint8_t wrong[sizeof T], bare[sizeof T];
     struct brasspurse_lists other = t_lists;
 
     wrong_index(wrong);
     no_header(bare);
 
-    IS_LOOKUP(brasspurse_lookup(S, 80, 0x0fff), 0, 0, 0, 2, BRASSPURSE_LOOKUP_NONE, 0);
-    IS_LOOKUP(brasspurse_lookup(S, 80, 0x1000), 0x1000, 0x1040, 0x01010001, 4,
-              BRASSPURSE_LOOKUP_FUNCTION, 0);
-    IS_LOOKUP(brasspurse_lookup(S, 80, 0x103f), 0x1000, 0x1040, 0x01010001, 4,
-              BRASSPURSE_LOOKUP_FUNCTION, 0);
-    IS_LOOKUP(brasspurse_lookup(S, 80, 0x1040), 0x1040, 0x1100, 0x02030800, 3,
-              BRASSPURSE_LOOKUP_FUNCTION, 0);
-    IS_LOOKUP(brasspurse_lookup(S, 80, 0x1100), 0, 0, 0, 1, BRASSPURSE_LOOKUP_NONE, 0);
-    IS_LOOKUP(brasspurse_lookup(S, 79, 0x1000), 0x1000, 0x1040, 0x01010001, 4,
-              BRASSPURSE_LOOKUP_FUNCTION, 0);
-    IS_LOOKUP(brasspurse_lookup(wrong, sizeof T, 0x2700), 0, 0, 0, 4, BRASSPURSE_LOOKUP_REFUSED,
-              BRASSPURSE_REFUSED_LOCAL_INDEX);
+    IS_NONE(brasspurse_lookup(S, 80, 0x0fff), 2);
+    IS_FOUND(brasspurse_lookup(S, 80, 0x1000), s_functions[0], 4);
+    IS_FOUND(brasspurse_lookup(S, 80, 0x103f), s_functions[0], 4);
+    IS_FOUND(brasspurse_lookup(S, 80, 0x1040), s_functions[1], 3);
+    IS_NONE(brasspurse_lookup(S, 80, 0x1100), 1);
+    IS_FOUND(brasspurse_lookup(S, 79, 0x1000), s_functions[0], 4);
+    IS_REFUSED(brasspurse_lookup(wrong, sizeof T, 0x2700), 4, BRASSPURSE_REFUSED_LOCAL_INDEX);
 
-    IS_LOOKUP(brasspurse_lookup_in(bare, sizeof T, t_lists, 0x2400), 0x2300, 0x2700, 0x01010001, 4,
-              BRASSPURSE_LOOKUP_FUNCTION, 0);
+    IS_FOUND(brasspurse_lookup_in(bare, sizeof T, t_lists, 0x2400), t_functions[3], 4);
     other.global_opcodes_offset = 32; /* one further: index 0 now names the second */
-    other.global_opcodes_len = 2;
-    IS_LOOKUP(brasspurse_lookup_in(bare, sizeof T, other, 0x2400), 0x2300, 0x2700, 0x02030800, 4,
-              BRASSPURSE_LOOKUP_FUNCTION, 0);
+    other.global_opcodes_len = 2;     /* and index 2 the first local one */
+    IS_FOUND(brasspurse_lookup_in(bare, sizeof T, other, 0x2400), second, 4);
+    IS_FOUND(brasspurse_lookup_in(bare, sizeof T, other, 0x2000), local, 4);
     other.pages_len = 12;
-    IS_LOOKUP(brasspurse_lookup_in(bare, sizeof T, other, 0x2400), 0, 0, 0, 0,
-              BRASSPURSE_LOOKUP_REFUSED, BRASSPURSE_REFUSED_PAGES);
+    IS_REFUSED(brasspurse_lookup_in(bare, sizeof T, other, 0x2400), 0, BRASSPURSE_REFUSED_PAGES);
 }
 
 static void batches(void)
 {
     const uint32_t addresses[5] = {0x0fff, 0x2400, 0x3700, 0x2700, 0x1000};
-    const uint32_t expected[19] = {
-        0, 0, 0, 0x00000003,                       /* none, 3 probes */
-        0x2300, 0x2700, 0x01010001, 0x00010004,    /* a function, 4 probes */
-        0x3700, 0x4000, 0x05000000, 0x00010004,
-        0, 0, 0, 0x0e020004,                       /* refused with 14, 4 probes */
-        0xeeeeeeee, 0xeeeeeeee, 0xeeeeeeee,        /* not written */
+    const uint32_t expected[29] = {
+        0, 0, 0, 0, 0, 0x00000300,                       /* none, 3 probes */
+        0x2300, 0x2700, 0x01010001, 1, 1, 0x00010402,    /* global, 4 probes */
+        0x3700, 0x4000, 0x05000000, 2, 2, 0x00010401,    /* regular, 4 probes */
+        0, 0, 0, 0, 0, 0x0e020400,                       /* refused with 14, 4 probes */
+        0xeeeeeeee, 0xeeeeeeee, 0xeeeeeeee, 0xeeeeeeee, 0xeeeeeeee, /* not written */
     };
-    uint32_t answers[19];
+    uint32_t answers[29];
     uint8_t wrong[sizeof T];
 
     wrong_index(wrong);
     memset(answers, 0xee, sizeof answers);
-    IS(brasspurse_lookup_batch(wrong, sizeof T, addresses, 5, answers, 19), 4);
-    for (int i = 0; i < 19; i++)
+    IS(brasspurse_lookup_batch(wrong, sizeof T, addresses, 5, answers, 29), 4);
+    for (int i = 0; i < 29; i++)
         IS(answers[i], expected[i]);
-    IS_LOOKUP(brasspurse_batch_answer(answers, 0), 0, 0, 0, 3, BRASSPURSE_LOOKUP_NONE, 0);
-    IS_LOOKUP(brasspurse_batch_answer(answers, 1), 0x2300, 0x2700, 0x01010001, 4,
-              BRASSPURSE_LOOKUP_FUNCTION, 0);
-    IS_LOOKUP(brasspurse_batch_answer(answers, 3), 0, 0, 0, 4, BRASSPURSE_LOOKUP_REFUSED, 14);
+    IS_NONE(brasspurse_batch_answer(answers, 0), 3);
+    IS_FOUND(brasspurse_batch_answer(answers, 1), t_functions[3], 4);
+    IS_FOUND(brasspurse_batch_answer(answers, 2), t_functions[7], 4);
+    IS_REFUSED(brasspurse_batch_answer(answers, 3), 4, BRASSPURSE_REFUSED_LOCAL_INDEX);
 
     /* More room than addresses; a section that does not parse. */
     memset(answers, 0xee, sizeof answers);
-    IS(brasspurse_lookup_batch(S, 27, addresses, 2, answers, 19), 2);
-    IS_LOOKUP(brasspurse_batch_answer(answers, 0), 0, 0, 0, 0, BRASSPURSE_LOOKUP_REFUSED,
-              BRASSPURSE_REFUSED_HEADER);
-    IS_LOOKUP(brasspurse_batch_answer(answers, 1), 0, 0, 0, 0, BRASSPURSE_LOOKUP_REFUSED,
-              BRASSPURSE_REFUSED_HEADER);
-    IS(answers[8], 0xeeeeeeee);
-    IS(brasspurse_lookup_batch(S, 80, addresses, 0, answers, 19), 0);
-    IS(brasspurse_lookup_batch(S, 80, addresses, 5, answers, 3), 0);
+    IS(brasspurse_lookup_batch(S, 27, addresses, 2, answers, 29), 2);
+    IS_REFUSED(brasspurse_batch_answer(answers, 0), 0, BRASSPURSE_REFUSED_HEADER);
+    IS_REFUSED(brasspurse_batch_answer(answers, 1), 0, BRASSPURSE_REFUSED_HEADER);
+    IS(answers[12], 0xeeeeeeee);
+    IS(brasspurse_lookup_batch(S, 80, addresses, 0, answers, 29), 0);
+    IS(brasspurse_lookup_batch(S, 80, addresses, 5, answers, 5), 0);
+    IS(answers[12], 0xeeeeeeee);
 }
 
-static void is_next(int line, struct brasspurse_next_answer n, uint32_t start, uint32_t end,
-                    uint32_t opcode, uint32_t page, uint32_t index, uint16_t outcome,
-                    uint16_t refusal)
+/* `page` and `index` are the cursor for the next call. */
+static void is_next(int line, struct brasspurse_next_answer n, struct function f, uint32_t page,
+                    uint32_t index, uint8_t outcome, uint8_t refusal)
 {
-    same(line, "start", n.start, start);
-    same(line, "end", n.end, end);
-    same(line, "opcode", n.opcode, opcode);
+    same(line, "start", n.start, f.start);
+    same(line, "end", n.end, f.end);
+    same(line, "opcode", n.opcode, f.opcode);
+    same(line, "function_page", n.function_page, f.page);
+    same(line, "function_index", n.function_index, f.index);
+    same(line, "origin", n.origin, f.origin);
     same(line, "page", n.page, page);
     same(line, "index", n.index, index);
     same(line, "outcome", n.outcome, outcome);
     same(line, "refusal", n.refusal, refusal);
 }
 
-#define IS_NEXT(answer, ...) is_next(__LINE__, answer, __VA_ARGS__)
+#define IS_NEXT(answer, function, page, index)                                                     \
+    is_next(__LINE__, answer, function, page, index, BRASSPURSE_NEXT_FUNCTION, 0)
+#define IS_END(answer, page) is_next(__LINE__, answer, no_function, page, 0, BRASSPURSE_NEXT_END, 0)
+#define IS_NEXT_REFUSED(answer, page, index, number)                                               \
+    is_next(__LINE__, answer, no_function, page, index, BRASSPURSE_NEXT_REFUSED, number)
 
 static void is_fill(int line, struct brasspurse_fill_answer f, size_t functions, uint32_t page,
                     uint32_t index, uint16_t outcome, uint16_t refusal)
@@ -485,8 +527,11 @@ static void is_fill(int line, struct brasspurse_fill_answer f, size_t functions,
 /* `out` has functions of T from `first` on, then what was there before. It is marked anew. */
 static void is_listed(int line, uint32_t out[26], size_t first, size_t count)
 {
-    for (size_t i = 0; i < 3 * count; i++)
-        same(line, "out", out[i], t_functions[first + i / 3][i % 3]);
+    for (size_t i = 0; i < count; i++) {
+        same(line, "out", out[3 * i], t_functions[first + i].start);
+        same(line, "out", out[3 * i + 1], t_functions[first + i].end);
+        same(line, "out", out[3 * i + 2], t_functions[first + i].opcode);
+    }
     for (size_t i = 3 * count; i < 26; i++)
         same(line, "out", out[i], 0xeeeeeeee);
     memset(out, 0xee, 26 * sizeof out[0]);
@@ -497,25 +542,31 @@ static void is_listed(int line, uint32_t out[26], size_t first, size_t count)
 static void iteration(void)
 {
     uint8_t wrong[sizeof T], bare[sizeof T];
-    uint32_t out[26];
     struct brasspurse_lists other = t_lists;
 
     wrong_index(wrong);
     no_header(bare);
     other.pages_len = 12;
 
-    IS_NEXT(brasspurse_next(T, sizeof T, 2, 2), 0x3700, 0x4000, 0x05000000, 2, 3,
-            BRASSPURSE_NEXT_FUNCTION, 0);
-    IS_NEXT(brasspurse_next(T, sizeof T, 1, 9), 0x3000, 0x3100, PUSHES, 2, 1,
-            BRASSPURSE_NEXT_FUNCTION, 0);
-    IS_NEXT(brasspurse_next(T, sizeof T, 7, 5), 0, 0, 0, 3, 0, BRASSPURSE_NEXT_END, 0);
-    IS_NEXT(brasspurse_next(wrong, sizeof T, 1, 2), 0, 0, 0, 1, 3, BRASSPURSE_NEXT_REFUSED,
-            BRASSPURSE_REFUSED_LOCAL_INDEX);
+    IS_NEXT(brasspurse_next(T, sizeof T, 2, 2), t_functions[7], 2, 3);
+    IS_NEXT(brasspurse_next(T, sizeof T, 1, 9), t_functions[5], 2, 1);
+    IS_END(brasspurse_next(T, sizeof T, 7, 5), 3);
+    IS_NEXT_REFUSED(brasspurse_next(wrong, sizeof T, 1, 2), 1, 3, BRASSPURSE_REFUSED_LOCAL_INDEX);
 
-    IS_NEXT(brasspurse_next_in(bare, sizeof T, t_lists, 2, 2), 0x3700, 0x4000, 0x05000000, 2, 3,
-            BRASSPURSE_NEXT_FUNCTION, 0);
-    IS_NEXT(brasspurse_next_in(bare, sizeof T, other, 5, 7), 0, 0, 0, 5, 7,
-            BRASSPURSE_NEXT_REFUSED, BRASSPURSE_REFUSED_PAGES);
+    IS_NEXT(brasspurse_next_in(bare, sizeof T, t_lists, 2, 2), t_functions[7], 2, 3);
+    IS_NEXT_REFUSED(brasspurse_next_in(bare, sizeof T, other, 5, 7), 5, 7,
+                    BRASSPURSE_REFUSED_PAGES);
+}
+
+static void blocks(void)
+{
+    uint8_t wrong[sizeof T], bare[sizeof T];
+    uint32_t out[26];
+    struct brasspurse_lists other = t_lists;
+
+    wrong_index(wrong);
+    no_header(bare);
+    other.pages_len = 12;
 
     memset(out, 0xee, sizeof out);
     IS_FILL(brasspurse_fill(T, sizeof T, 0, 0, out, 26), 8, 2, 3, BRASSPURSE_FILL_FULL, 0);
@@ -571,6 +622,78 @@ static void no_room(void)
                 0);
     }
     IS_LISTED(out, 0, 0);
+}
+
+/* Each function by its first and its last address: alone, in a batch of all, and at the cursor that
+ * its place is. */
+static void are_placed(int line, const uint8_t *section, size_t len, const struct function *f,
+                       size_t count)
+{
+    uint32_t addresses[16], answers[6 * 16];
+
+    for (size_t i = 0; i < count; i++) {
+        addresses[2 * i] = f[i].start;
+        addresses[2 * i + 1] = f[i].end - 1;
+    }
+    same(line, "answered",
+         brasspurse_lookup_batch(section, len, addresses, 2 * count, answers, 12 * count),
+         2 * count);
+    for (size_t i = 0; i < 2 * count; i++) {
+        const struct function g = f[i / 2];
+        struct brasspurse_lookup_answer l = brasspurse_lookup(section, len, addresses[i]);
+
+        is_lookup(line, l, g, l.probes, BRASSPURSE_LOOKUP_FUNCTION, 0);
+        is_lookup(line, brasspurse_batch_answer(answers, i), g, l.probes,
+                  BRASSPURSE_LOOKUP_FUNCTION, 0);
+        is_next(line, brasspurse_next(section, len, l.page, l.index), g, g.page, g.index + 1u,
+                BRASSPURSE_NEXT_FUNCTION, 0);
+    }
+}
+
+#define ARE_PLACED(...) are_placed(__LINE__, __VA_ARGS__)
+
+/* Where a page's local opcodes lie outside, a lookup that needs none of them finds a function, and
+ * at its cursor it is refused. */
+static void places(void)
+{
+    ARE_PLACED(S, 80, s_functions, 2);
+    ARE_PLACED(T, sizeof T, t_functions, 8);
+    IS_FOUND(brasspurse_lookup(S, 79, 0x103f), s_functions[0], 4);
+    IS_NEXT_REFUSED(brasspurse_next(S, 79, 0, 0), 1, 0, BRASSPURSE_REFUSED_LOCAL_OPCODES);
+}
+
+/* A page's number has more than 16 bits, an index more than 8: 70,000 compressed pages that share
+ * their bytes, each of one function with the global opcode; then a regular page of 65,535. */
+static void many_places(void)
+{
+    enum { PAGES = 70000, FUNCTIONS = 65535, FIRST = 16 * PAGES };
+    enum { SHARED = 32 + 12 * (PAGES + 2), LAST = SHARED + 16, END = LAST + 8 + 8 * FUNCTIONS };
+    const uint32_t header[8] = {1, 28, 1, 32, 0, 32, PAGES + 2, 0x01010001};
+    const struct function functions[4] = {
+        {16 * 258, 16 * 259, 0x01010001, 258, 0, GLOBAL},
+        {16 * 69999, 16 * 70000, 0x01010001, 69999, 0, GLOBAL},
+        {FIRST + 4 * 258, FIRST + 4 * 259, 0x02000102, 70000, 258, REGULAR},
+        {FIRST + 4 * 65534, FIRST + 4 * 65535, 0x0200fffe, 70000, 65534, REGULAR},
+    };
+    static uint8_t section[END];
+
+    for (uint32_t i = 0; i < 8; i++)
+        put(section, 4 * i, header[i]);
+    for (uint32_t page = 0; page <= PAGES + 1; page++) {
+        put(section, 32 + 12 * page, page <= PAGES ? 16 * page : FIRST + 4 * FUNCTIONS);
+        put(section, 36 + 12 * page, page < PAGES ? SHARED : LAST);
+    }
+    put(section, SHARED, 3);
+    put(section, SHARED + 4, 0x0001000c);
+    put(section, SHARED + 8, 16);
+    put(section, LAST, 2);
+    put(section, LAST + 4, 0xffff0008);
+    for (uint32_t i = 0; i < FUNCTIONS; i++) {
+        put(section, LAST + 8 + 8 * i, FIRST + 4 * i);
+        put(section, LAST + 12 + 8 * i, 0x02000000 + i);
+    }
+    IS(brasspurse_is_well_formed(section, END), true);
+    ARE_PLACED(section, END, functions, 4);
 }
 
 /* Registers that differ from each other and from all in a window. */
@@ -845,16 +968,79 @@ static void unwinding(void)
 }
 
 /* With length 0 any pointer does, NULL among them: every buffer of every call, with the same
- * answers for both. */
-static void nothing_lent(void)
+ * answers for both. `b` and `n` are such pointers. */
+
+static const struct brasspurse_lists no_lists = {0, 0, 0, 0}, one_opcode = {0, 1, 0, 0};
+static const struct brasspurse_lists one_page = {0, 0, 0, 1};
+
+static void no_bytes(const uint8_t *b)
 {
-    const uint8_t byte[1] = {1};
-    const uint8_t *const bytes[2] = {byte, NULL};
-    uint32_t number[1] = {0xeeeeeeee}, out[26];
-    uint32_t *const numbers[2] = {number, NULL};
-    const uint32_t addresses[2] = {0x1000, 0x1040};
-    const struct brasspurse_lists none = {0, 0, 0, 0}, opcode = {0, 1, 0, 0}, page = {0, 0, 0, 1};
     const struct brasspurse_lists past = {1, 0, 0, 0};
+
+    IS(brasspurse_read_u16(b, 0, 0).granted, 0);
+    IS(brasspurse_read_u32(b, 0, 0).granted, 0);
+    IS(brasspurse_read_u64(b, 0, 0).granted, 0);
+    IS(brasspurse_is_granted(b, 0, 0, 0), true);
+    IS(brasspurse_is_granted(b, 0, 0, 1), false);
+    IS(brasspurse_is_granted(b, 0, 1, 0), false);
+
+    IS(brasspurse_parse(b, 0).refusal, BRASSPURSE_REFUSED_HEADER);
+    IS(brasspurse_is_well_formed(b, 0), false);
+    IS(brasspurse_address_range(b, 0).refusal, BRASSPURSE_REFUSED_HEADER);
+    IS(brasspurse_address_range_in(b, 0, no_lists).refusal, 0);
+    IS(brasspurse_address_range_in(b, 0, no_lists).end, 0);
+    IS(brasspurse_address_range_in(b, 0, one_opcode).refusal, BRASSPURSE_REFUSED_GLOBAL_OPCODES);
+    IS(brasspurse_address_range_in(b, 0, past).refusal, BRASSPURSE_REFUSED_GLOBAL_OPCODES);
+    IS(brasspurse_address_range_in(b, 0, one_page).refusal, BRASSPURSE_REFUSED_PAGES);
+}
+
+static void no_bytes_looked_up(const uint8_t *b, uint32_t *n)
+{
+    const uint32_t addresses[2] = {0x1000, 0x1040};
+    uint32_t out[26];
+
+    IS_REFUSED(brasspurse_lookup(b, 0, 0x1000), 0, BRASSPURSE_REFUSED_HEADER);
+    IS_NONE(brasspurse_lookup_in(b, 0, no_lists, 0x1000), 0);
+    IS_REFUSED(brasspurse_lookup_in(b, 0, one_page, 0x1000), 0, BRASSPURSE_REFUSED_PAGES);
+    memset(out, 0xee, sizeof out);
+    IS(brasspurse_lookup_batch(b, 0, addresses, 2, out, 26), 2);
+    for (size_t k = 0; k < 2; k++)
+        IS_REFUSED(brasspurse_batch_answer(out, k), 0, BRASSPURSE_REFUSED_HEADER);
+    IS(out[12], 0xeeeeeeee);
+    memset(out, 0xee, sizeof out);
+    IS(brasspurse_lookup_batch(S, 80, n, 0, out, 26), 0);
+    IS(brasspurse_lookup_batch(S, 80, addresses, 2, n, 0), 0);
+    IS(brasspurse_lookup_batch(b, 0, n, 0, n, 0), 0);
+    IS_LISTED(out, 0, 0);
+}
+
+static void no_bytes_iterated(const uint8_t *b, uint32_t *n)
+{
+    uint32_t out[26];
+
+    IS_NEXT_REFUSED(brasspurse_next(b, 0, 5, 7), 5, 7, BRASSPURSE_REFUSED_HEADER);
+    IS_END(brasspurse_next_in(b, 0, no_lists, 5, 7), 0);
+    IS_NEXT_REFUSED(brasspurse_next_in(b, 0, one_opcode, 5, 7), 5, 7,
+                    BRASSPURSE_REFUSED_GLOBAL_OPCODES);
+    memset(out, 0xee, sizeof out);
+    IS_FILL(brasspurse_fill(b, 0, 5, 7, out, 26), 0, 5, 7, BRASSPURSE_FILL_REFUSED,
+            BRASSPURSE_REFUSED_HEADER);
+    IS_FILL(brasspurse_fill(b, 0, 5, 7, n, 0), 0, 5, 7, BRASSPURSE_FILL_REFUSED,
+            BRASSPURSE_REFUSED_HEADER);
+    IS_FILL(brasspurse_fill(S, 55, 5, 7, n, 0), 0, 5, 7, BRASSPURSE_FILL_REFUSED,
+            BRASSPURSE_REFUSED_PAGES);
+    IS_FILL(brasspurse_fill(S, 80, 0, 1, n, 0), 0, 0, 1, BRASSPURSE_FILL_FULL, 0);
+    IS_FILL(brasspurse_fill_in(b, 0, no_lists, 5, 7, out, 26), 0, 0, 0, BRASSPURSE_FILL_END, 0);
+    IS_FILL(brasspurse_fill_in(b, 0, no_lists, 5, 7, n, 0), 0, 5, 7, BRASSPURSE_FILL_FULL, 0);
+    IS_FILL(brasspurse_fill_in(b, 0, one_page, 5, 7, n, 0), 0, 5, 7, BRASSPURSE_FILL_REFUSED,
+            BRASSPURSE_REFUSED_PAGES);
+    IS_FILL(brasspurse_fill_in(T, sizeof T, t_lists, 1, 1, n, 0), 0, 1, 1, BRASSPURSE_FILL_FULL,
+            0);
+    IS_LISTED(out, 0, 0);
+}
+
+static void no_window(const uint8_t *b)
+{
     const struct brasspurse_registers_x86_64 x = x86_64(0x7000, 0x7030);
     const struct brasspurse_registers_arm64 a = arm64(0x8000, 0x8090);
     struct brasspurse_registers_arm64 leaf = a;
@@ -864,84 +1050,40 @@ static void nothing_lent(void)
     put(arm, 28, 0x02004000);
     leaf.pc = a.saved[BRASSPURSE_X30];
     leaf.sp = 0x8040;
-    memset(out, 0xee, sizeof out);
+
+    IS_STEP_X86_64(brasspurse_step_x86_64(FIELDS, x, 0x7000, b, 0),
+                   BRASSPURSE_REFUSED_OUTSIDE_WINDOW, 0, x);
+    IS_STEP_X86_64(brasspurse_step_x86_64(PUSHES, x, UINT64_MAX, b, 0),
+                   BRASSPURSE_REFUSED_OUTSIDE_WINDOW, 0, x);
+    IS_STEP_ARM64(brasspurse_step_arm64(PAIRS, a, 0x8000, b, 0),
+                  BRASSPURSE_REFUSED_OUTSIDE_WINDOW, 0, a);
+    IS_STEP_ARM64(brasspurse_step_arm64(0x02004000, a, 0x8000, b, 0), 0, 0, leaf);
+
+    IS_UNWIND_X86_64(brasspurse_unwind_x86_64(b, 0, 0x1010, x, 0x7000, fields_frame, 64),
+                     BRASSPURSE_REFUSED_HEADER, 0, 0, x);
+    IS_UNWIND_X86_64(brasspurse_unwind_x86_64(S, 80, 0x1010, x, 0x7000, b, 0),
+                     BRASSPURSE_REFUSED_OUTSIDE_WINDOW, 0, 4, x);
+    IS_UNWIND_X86_64(brasspurse_unwind_x86_64(b, 0, 0x1010, x, 0, b, 0),
+                     BRASSPURSE_REFUSED_HEADER, 0, 0, x);
+    IS_UNWIND_ARM64(brasspurse_unwind_arm64(b, 0, 0x1010, a, 0x8000, pairs_frame, 160),
+                    BRASSPURSE_REFUSED_HEADER, 0, 0, a);
+    IS_UNWIND_ARM64(brasspurse_unwind_arm64(arm, 80, 0x1010, a, 0x8000, b, 0), 0, 0, 4, leaf);
+    IS_UNWIND_ARM64(brasspurse_unwind_arm64(b, 0, 0x1010, a, 0, b, 0), BRASSPURSE_REFUSED_HEADER,
+                    0, 0, a);
+}
+
+static void nothing_lent(void)
+{
+    const uint8_t byte[1] = {1};
+    const uint8_t *const bytes[2] = {byte, NULL};
+    uint32_t number[1] = {0xeeeeeeee};
+    uint32_t *const numbers[2] = {number, NULL};
 
     for (int i = 0; i < 2; i++) {
-        const uint8_t *const b = bytes[i];
-        uint32_t *const n = numbers[i];
-
-        IS(brasspurse_read_u16(b, 0, 0).granted, 0);
-        IS(brasspurse_read_u32(b, 0, 0).granted, 0);
-        IS(brasspurse_read_u64(b, 0, 0).granted, 0);
-        IS(brasspurse_is_granted(b, 0, 0, 0), true);
-        IS(brasspurse_is_granted(b, 0, 0, 1), false);
-        IS(brasspurse_is_granted(b, 0, 1, 0), false);
-
-        IS(brasspurse_parse(b, 0).refusal, BRASSPURSE_REFUSED_HEADER);
-        IS(brasspurse_is_well_formed(b, 0), false);
-        IS(brasspurse_address_range(b, 0).refusal, BRASSPURSE_REFUSED_HEADER);
-        IS(brasspurse_address_range_in(b, 0, none).refusal, 0);
-        IS(brasspurse_address_range_in(b, 0, none).end, 0);
-        IS(brasspurse_address_range_in(b, 0, opcode).refusal, BRASSPURSE_REFUSED_GLOBAL_OPCODES);
-        IS(brasspurse_address_range_in(b, 0, past).refusal, BRASSPURSE_REFUSED_GLOBAL_OPCODES);
-        IS(brasspurse_address_range_in(b, 0, page).refusal, BRASSPURSE_REFUSED_PAGES);
-
-        IS_LOOKUP(brasspurse_lookup(b, 0, 0x1000), 0, 0, 0, 0, BRASSPURSE_LOOKUP_REFUSED,
-                  BRASSPURSE_REFUSED_HEADER);
-        IS_LOOKUP(brasspurse_lookup_in(b, 0, none, 0x1000), 0, 0, 0, 0, BRASSPURSE_LOOKUP_NONE,
-                  0);
-        IS_LOOKUP(brasspurse_lookup_in(b, 0, page, 0x1000), 0, 0, 0, 0, BRASSPURSE_LOOKUP_REFUSED,
-                  BRASSPURSE_REFUSED_PAGES);
-        IS(brasspurse_lookup_batch(b, 0, addresses, 2, out, 26), 2);
-        for (size_t k = 0; k < 2; k++)
-            IS_LOOKUP(brasspurse_batch_answer(out, k), 0, 0, 0, 0, BRASSPURSE_LOOKUP_REFUSED,
-                      BRASSPURSE_REFUSED_HEADER);
-        IS(out[8], 0xeeeeeeee);
-        memset(out, 0xee, sizeof out);
-        IS(brasspurse_lookup_batch(S, 80, n, 0, out, 26), 0);
-        IS(brasspurse_lookup_batch(S, 80, addresses, 2, n, 0), 0);
-        IS(brasspurse_lookup_batch(b, 0, n, 0, n, 0), 0);
-        IS_LISTED(out, 0, 0);
-
-        IS_NEXT(brasspurse_next(b, 0, 5, 7), 0, 0, 0, 5, 7, BRASSPURSE_NEXT_REFUSED,
-                BRASSPURSE_REFUSED_HEADER);
-        IS_NEXT(brasspurse_next_in(b, 0, none, 5, 7), 0, 0, 0, 0, 0, BRASSPURSE_NEXT_END, 0);
-        IS_NEXT(brasspurse_next_in(b, 0, opcode, 5, 7), 0, 0, 0, 5, 7, BRASSPURSE_NEXT_REFUSED,
-                BRASSPURSE_REFUSED_GLOBAL_OPCODES);
-        IS_FILL(brasspurse_fill(b, 0, 5, 7, out, 26), 0, 5, 7, BRASSPURSE_FILL_REFUSED,
-                BRASSPURSE_REFUSED_HEADER);
-        IS_FILL(brasspurse_fill(b, 0, 5, 7, n, 0), 0, 5, 7, BRASSPURSE_FILL_REFUSED,
-                BRASSPURSE_REFUSED_HEADER);
-        IS_FILL(brasspurse_fill(S, 55, 5, 7, n, 0), 0, 5, 7, BRASSPURSE_FILL_REFUSED,
-                BRASSPURSE_REFUSED_PAGES);
-        IS_FILL(brasspurse_fill(S, 80, 0, 1, n, 0), 0, 0, 1, BRASSPURSE_FILL_FULL, 0);
-        IS_FILL(brasspurse_fill_in(b, 0, none, 5, 7, out, 26), 0, 0, 0, BRASSPURSE_FILL_END, 0);
-        IS_FILL(brasspurse_fill_in(b, 0, none, 5, 7, n, 0), 0, 5, 7, BRASSPURSE_FILL_FULL, 0);
-        IS_FILL(brasspurse_fill_in(b, 0, page, 5, 7, n, 0), 0, 5, 7, BRASSPURSE_FILL_REFUSED,
-                BRASSPURSE_REFUSED_PAGES);
-        IS_FILL(brasspurse_fill_in(T, sizeof T, t_lists, 1, 1, n, 0), 0, 1, 1,
-                BRASSPURSE_FILL_FULL, 0);
-        IS_LISTED(out, 0, 0);
-
-        IS_STEP_X86_64(brasspurse_step_x86_64(FIELDS, x, 0x7000, b, 0),
-                       BRASSPURSE_REFUSED_OUTSIDE_WINDOW, 0, x);
-        IS_STEP_X86_64(brasspurse_step_x86_64(PUSHES, x, UINT64_MAX, b, 0),
-                       BRASSPURSE_REFUSED_OUTSIDE_WINDOW, 0, x);
-        IS_STEP_ARM64(brasspurse_step_arm64(PAIRS, a, 0x8000, b, 0),
-                      BRASSPURSE_REFUSED_OUTSIDE_WINDOW, 0, a);
-        IS_STEP_ARM64(brasspurse_step_arm64(0x02004000, a, 0x8000, b, 0), 0, 0, leaf);
-
-        IS_UNWIND_X86_64(brasspurse_unwind_x86_64(b, 0, 0x1010, x, 0x7000, fields_frame, 64),
-                         BRASSPURSE_REFUSED_HEADER, 0, 0, x);
-        IS_UNWIND_X86_64(brasspurse_unwind_x86_64(S, 80, 0x1010, x, 0x7000, b, 0),
-                         BRASSPURSE_REFUSED_OUTSIDE_WINDOW, 0, 4, x);
-        IS_UNWIND_X86_64(brasspurse_unwind_x86_64(b, 0, 0x1010, x, 0, b, 0),
-                         BRASSPURSE_REFUSED_HEADER, 0, 0, x);
-        IS_UNWIND_ARM64(brasspurse_unwind_arm64(b, 0, 0x1010, a, 0x8000, pairs_frame, 160),
-                        BRASSPURSE_REFUSED_HEADER, 0, 0, a);
-        IS_UNWIND_ARM64(brasspurse_unwind_arm64(arm, 80, 0x1010, a, 0x8000, b, 0), 0, 0, 4, leaf);
-        IS_UNWIND_ARM64(brasspurse_unwind_arm64(b, 0, 0x1010, a, 0, b, 0),
-                        BRASSPURSE_REFUSED_HEADER, 0, 0, a);
+        no_bytes(bytes[i]);
+        no_bytes_looked_up(bytes[i], numbers[i]);
+        no_bytes_iterated(bytes[i], numbers[i]);
+        no_window(bytes[i]);
     }
     IS(number[0], 0xeeeeeeee);
 }
@@ -953,19 +1095,19 @@ static void is_of_another_version(const uint8_t *section, size_t len)
     const uint32_t addresses[5] = {0x1040, 0x1000, 0x0fff, 0x1100, 0x1040};
     const struct brasspurse_registers_x86_64 x = x86_64(0x7000, 0x7030);
     const struct brasspurse_registers_arm64 a = arm64(0x8000, 0x8090);
-    uint32_t out[26];
+    uint32_t answers[32], out[26];
 
     IS(brasspurse_parse(section, len).refusal, n);
     IS(brasspurse_parse(section, len).pages_len, 0);
     IS(brasspurse_address_range(section, len).refusal, n);
     IS(brasspurse_is_well_formed(section, len), false);
-    IS_LOOKUP(brasspurse_lookup(section, len, 0x1040), 0, 0, 0, 0, BRASSPURSE_LOOKUP_REFUSED, n);
-    memset(out, 0xee, sizeof out);
-    IS(brasspurse_lookup_batch(section, len, addresses, 5, out, 26), 5);
+    IS_REFUSED(brasspurse_lookup(section, len, 0x1040), 0, n);
+    memset(answers, 0xee, sizeof answers);
+    IS(brasspurse_lookup_batch(section, len, addresses, 5, answers, 32), 5);
     for (size_t k = 0; k < 5; k++)
-        IS_LOOKUP(brasspurse_batch_answer(out, k), 0, 0, 0, 0, BRASSPURSE_LOOKUP_REFUSED, n);
-    IS(out[20], 0xeeeeeeee);
-    IS_NEXT(brasspurse_next(section, len, 5, 7), 0, 0, 0, 5, 7, BRASSPURSE_NEXT_REFUSED, n);
+        IS_REFUSED(brasspurse_batch_answer(answers, k), 0, n);
+    IS(answers[30], 0xeeeeeeee);
+    IS_NEXT_REFUSED(brasspurse_next(section, len, 5, 7), 5, 7, n);
     memset(out, 0xee, sizeof out);
     for (size_t room = 0; room < 26; room += 5)
         IS_FILL(brasspurse_fill(section, len, 5, 7, out, room), 0, 5, 7, BRASSPURSE_FILL_REFUSED,
@@ -995,10 +1137,8 @@ static void versions(void)
         IS(brasspurse_parse(section, 27).refusal, BRASSPURSE_REFUSED_HEADER);
 
         IS(brasspurse_address_range_in(section, 80, lists).end, 0x1100);
-        IS_LOOKUP(brasspurse_lookup_in(section, 80, lists, 0x1040), 0x1040, 0x1100, 0x02030800, 3,
-                  BRASSPURSE_LOOKUP_FUNCTION, 0);
-        IS_NEXT(brasspurse_next_in(section, 80, lists, 0, 1), 0x1040, 0x1100, 0x02030800, 0, 2,
-                BRASSPURSE_NEXT_FUNCTION, 0);
+        IS_FOUND(brasspurse_lookup_in(section, 80, lists, 0x1040), s_functions[1], 3);
+        IS_NEXT(brasspurse_next_in(section, 80, lists, 0, 1), s_functions[1], 0, 2);
         IS_FILL(brasspurse_fill_in(section, 80, lists, 0, 0, out, 26), 2, 1, 0,
                 BRASSPURSE_FILL_END, 0);
     }
@@ -1006,59 +1146,57 @@ static void versions(void)
 
 /* Each other refusal of a section, from S: cut to `len` bytes, and with the number at `at` changed
  * (at 0 is the version, and stays 1). */
+static const struct {
+    uint8_t refusal;
+    size_t len;
+    size_t at;
+    uint32_t number;
+    uint8_t probes;
+} refused_sections[12] = {
+    {BRASSPURSE_REFUSED_HEADER, 27, 0, 1, 0},
+    {BRASSPURSE_REFUSED_GLOBAL_OPCODES, 31, 0, 1, 0},
+    {BRASSPURSE_REFUSED_PAGES, 55, 0, 1, 0},
+    {BRASSPURSE_REFUSED_PAGE_KIND, 59, 0, 1, 2},
+    {BRASSPURSE_REFUSED_UNEXPECTED_SENTINEL_PAGE, 80, 56, 1, 2},
+    {BRASSPURSE_REFUSED_INVALID_PAGE_KIND, 80, 56, 4, 2},
+    {BRASSPURSE_REFUSED_REGULAR_PAGE, 63, 56, 2, 2},
+    {BRASSPURSE_REFUSED_REGULAR_PAGE_FUNCTIONS, 80, 56, 2, 2},
+    {BRASSPURSE_REFUSED_COMPRESSED_PAGE, 67, 0, 1, 2},
+    {BRASSPURSE_REFUSED_COMPRESSED_PAGE_FUNCTIONS, 75, 0, 1, 2},
+    {BRASSPURSE_REFUSED_LOCAL_OPCODES, 79, 0, 1, 3},
+    {BRASSPURSE_REFUSED_LOCAL_INDEX, 80, 72, 0x02000040, 3},
+};
+
 static void section_refusals(void)
 {
-    const struct {
-        uint8_t refusal;
-        size_t len;
-        size_t at;
-        uint32_t number;
-        uint16_t probes;
-    } rows[] = {
-        {BRASSPURSE_REFUSED_HEADER, 27, 0, 1, 0},
-        {BRASSPURSE_REFUSED_GLOBAL_OPCODES, 31, 0, 1, 0},
-        {BRASSPURSE_REFUSED_PAGES, 55, 0, 1, 0},
-        {BRASSPURSE_REFUSED_PAGE_KIND, 59, 0, 1, 2},
-        {BRASSPURSE_REFUSED_UNEXPECTED_SENTINEL_PAGE, 80, 56, 1, 2},
-        {BRASSPURSE_REFUSED_INVALID_PAGE_KIND, 80, 56, 4, 2},
-        {BRASSPURSE_REFUSED_REGULAR_PAGE, 63, 56, 2, 2},
-        {BRASSPURSE_REFUSED_REGULAR_PAGE_FUNCTIONS, 80, 56, 2, 2},
-        {BRASSPURSE_REFUSED_COMPRESSED_PAGE, 67, 0, 1, 2},
-        {BRASSPURSE_REFUSED_COMPRESSED_PAGE_FUNCTIONS, 75, 0, 1, 2},
-        {BRASSPURSE_REFUSED_LOCAL_OPCODES, 79, 0, 1, 3},
-        {BRASSPURSE_REFUSED_LOCAL_INDEX, 80, 72, 0x02000040, 3},
-    };
     uint8_t section[sizeof S];
     uint32_t out[6];
 
-    for (size_t i = 0; i < sizeof rows / sizeof rows[0]; i++) {
-        const uint8_t n = rows[i].refusal;
-        const size_t len = rows[i].len;
+    for (size_t i = 0; i < 12; i++) {
+        const uint8_t n = refused_sections[i].refusal;
+        const size_t len = refused_sections[i].len;
+        /* The cursor stays, goes past the page, or past the function. */
+        const uint32_t page = n >= 4 && n <= 11, index = n <= 3 ? 1 : n <= 11 ? 0 : 2;
 
         memcpy(section, S, sizeof S);
-        put(section, rows[i].at, rows[i].number);
-        IS_LOOKUP(brasspurse_lookup(section, len, 0x1040), 0, 0, 0, rows[i].probes,
-                  BRASSPURSE_LOOKUP_REFUSED, n);
-        /* The cursor stays, goes past the page, or past the function. */
-        IS_NEXT(brasspurse_next(section, len, 0, 1), 0, 0, 0, n >= 4 && n <= 11,
-                n <= 3 ? 1 : n <= 11 ? 0 : 2, BRASSPURSE_NEXT_REFUSED, n);
-        IS_FILL(brasspurse_fill(section, len, 0, 1, out, 6), 0, n >= 4 && n <= 11,
-                n <= 3 ? 1 : n <= 11 ? 0 : 2, BRASSPURSE_FILL_REFUSED, n);
+        put(section, refused_sections[i].at, refused_sections[i].number);
+        IS_REFUSED(brasspurse_lookup(section, len, 0x1040), refused_sections[i].probes, n);
+        IS_NEXT_REFUSED(brasspurse_next(section, len, 0, 1), page, index, n);
+        IS_FILL(brasspurse_fill(section, len, 0, 1, out, 6), 0, page, index,
+                BRASSPURSE_FILL_REFUSED, n);
         IS(brasspurse_is_well_formed(section, len), false);
     }
 
     memcpy(section, S, sizeof S);
     put(section, 68, 0x00000010); /* the first function starts after its page */
-    IS_LOOKUP(brasspurse_lookup(section, 80, 0x1000), 0, 0, 0, 4, BRASSPURSE_LOOKUP_REFUSED,
-              BRASSPURSE_REFUSED_INVALID_PAGE_ENTRY_FIRST_ADDRESS);
+    IS_REFUSED(brasspurse_lookup(section, 80, 0x1000), 4,
+               BRASSPURSE_REFUSED_INVALID_PAGE_ENTRY_FIRST_ADDRESS);
 
     memcpy(section, S, sizeof S);
     put(section, 32, 0xfffffff0); /* the second function starts at 0x100000030 */
     put(section, 44, 0xffffffff);
-    IS_LOOKUP(brasspurse_lookup(section, 80, 0xfffffff5), 0, 0, 0, 4, BRASSPURSE_LOOKUP_REFUSED,
-              BRASSPURSE_REFUSED_ADDRESS_TOO_LARGE);
-    IS_NEXT(brasspurse_next(section, 80, 0, 1), 0, 0, 0, 0, 2, BRASSPURSE_NEXT_REFUSED,
-            BRASSPURSE_REFUSED_ADDRESS_TOO_LARGE);
+    IS_REFUSED(brasspurse_lookup(section, 80, 0xfffffff5), 4, BRASSPURSE_REFUSED_ADDRESS_TOO_LARGE);
+    IS_NEXT_REFUSED(brasspurse_next(section, 80, 0, 1), 0, 2, BRASSPURSE_REFUSED_ADDRESS_TOO_LARGE);
 }
 
 int main(void)
@@ -1071,7 +1209,10 @@ int main(void)
     lookups();
     batches();
     iteration();
+    blocks();
     no_room();
+    places();
+    many_places();
     rules();
     steps();
     unwinding();

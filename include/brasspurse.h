@@ -55,9 +55,9 @@ extern "C" {
 #endif
 
 /* This header's version. */
-#define BRASSPURSE_VERSION "0.3.0"
+#define BRASSPURSE_VERSION "0.4.0"
 #define BRASSPURSE_VERSION_MAJOR 0
-#define BRASSPURSE_VERSION_MINOR 3
+#define BRASSPURSE_VERSION_MINOR 4
 #define BRASSPURSE_VERSION_PATCH 0
 
 /* Refusals. 16 to 19 and 29 are not in use. */
@@ -222,10 +222,18 @@ struct brasspurse_range_answer brasspurse_address_range_in(const uint8_t *sectio
                                                            size_t section_len,
                                                            struct brasspurse_lists lists);
 
+/* Where a function's opcode word was read. */
+enum brasspurse_origin {
+    BRASSPURSE_ORIGIN_NONE = 0,           /* there is no function */
+    BRASSPURSE_ORIGIN_REGULAR_ENTRY = 1,  /* in the function's own entry, of a regular page */
+    BRASSPURSE_ORIGIN_GLOBAL_OPCODES = 2, /* in the section's list of global opcodes */
+    BRASSPURSE_ORIGIN_LOCAL_OPCODES = 3   /* in the page's list of local opcodes */
+};
+
 enum brasspurse_lookup_outcome {
     BRASSPURSE_LOOKUP_NONE = 0,     /* the address is before the first page, or from the last on,
                                        or there is no page */
-    BRASSPURSE_LOOKUP_FUNCTION = 1, /* start, end and opcode are there */
+    BRASSPURSE_LOOKUP_FUNCTION = 1, /* start to origin are there */
     BRASSPURSE_LOOKUP_REFUSED = 2   /* refusal is there */
 };
 
@@ -233,13 +241,21 @@ struct brasspurse_lookup_answer {
     uint32_t start;  /* the function's first address */
     uint32_t end;    /* the first address after it */
     uint32_t opcode; /* its opcode word */
-    uint16_t probes; /* how many entries the searches looked at; 0 if the section doesn't parse */
+    uint32_t page;   /* the number of its page */
+    uint32_t index;  /* its index there, below 65,536 */
+    uint8_t origin;  /* an enum brasspurse_origin */
+    uint8_t probes;  /* how many entries the searches looked at; 0 if the section doesn't parse */
     uint8_t outcome; /* an enum brasspurse_lookup_outcome */
     uint8_t refusal; /* 0, or 1 to 15 */
 };
 
 /* The function that covers the address. In a section that is not well formed it is the one that
- * the search arrives at, which may not cover it: see brasspurse_is_well_formed. */
+ * the search arrives at, which may not cover it: see brasspurse_is_well_formed.
+ *
+ * Its page and index are a cursor, at which brasspurse_next answers this function: a caller can go
+ * on from it. But a lookup that finds a global opcode does not ask for the page's local ones, and
+ * brasspurse_next does: where they lie outside, it refuses with 11. In a well-formed section they
+ * never do. */
 struct brasspurse_lookup_answer brasspurse_lookup(const uint8_t *section, size_t section_len,
                                                   uint32_t address);
 struct brasspurse_lookup_answer brasspurse_lookup_in(const uint8_t *section, size_t section_len,
@@ -247,7 +263,7 @@ struct brasspurse_lookup_answer brasspurse_lookup_in(const uint8_t *section, siz
                                                      uint32_t address);
 
 /* Looks many addresses up, as many as there are and as `answers` has room for: the smaller of
- * addresses_len and answers_len / 4, which is what it returns. Each answer is four numbers of
+ * addresses_len and answers_len / 6, which is what it returns. Each answer is six numbers of
  * `answers`, in the order of the addresses; brasspurse_batch_answer unpacks one. The numbers after
  * them stay as they were. A section that does not parse gives every answer its 1, 15, 2 or 3. */
 size_t brasspurse_lookup_batch(const uint8_t *section, size_t section_len,
@@ -260,36 +276,43 @@ static inline struct brasspurse_lookup_answer brasspurse_batch_answer(const uint
                                                                       size_t i)
 {
     struct brasspurse_lookup_answer answer;
-    const uint32_t *four = answers + 4 * i;
-    answer.start = four[0];
-    answer.end = four[1];
-    answer.opcode = four[2];
-    answer.probes = (uint16_t)(four[3] & 0xffff);
-    answer.outcome = (uint8_t)(four[3] >> 16 & 0xff);
-    answer.refusal = (uint8_t)(four[3] >> 24);
+    const uint32_t *six = answers + 6 * i;
+    answer.start = six[0];
+    answer.end = six[1];
+    answer.opcode = six[2];
+    answer.page = six[3];
+    answer.index = six[4];
+    answer.origin = (uint8_t)(six[5] & 0xff);
+    answer.probes = (uint8_t)(six[5] >> 8 & 0xff);
+    answer.outcome = (uint8_t)(six[5] >> 16 & 0xff);
+    answer.refusal = (uint8_t)(six[5] >> 24);
     return answer;
 }
 
-/* Iteration. A cursor is a page's number and a function's index in it. Begin with 0 and 0; after
- * that, pass what the last answer has. Any two numbers may be passed: an index past a page's
- * functions means the next page's first, and a page at or past the last one means the end. */
+/* Iteration. A cursor is a page's number and a function's index in it. Begin with 0 and 0, or with
+ * a lookup's page and index; after that, pass the page and index that the last answer has. Any two
+ * numbers may be passed: an index past a page's functions means the next page's first, and a page
+ * at or past the last one means the end. */
 
 enum brasspurse_next_outcome {
     BRASSPURSE_NEXT_END = 0,      /* there are no more; the cursor is the last page with index 0 */
-    BRASSPURSE_NEXT_FUNCTION = 1, /* start, end and opcode are there */
+    BRASSPURSE_NEXT_FUNCTION = 1, /* the function's numbers are there */
     BRASSPURSE_NEXT_REFUSED = 2   /* refusal is there */
 };
 
 /* After 13 and 14 the cursor stands past the function, after 4 to 11 past the page, so that a loop
  * goes on; after 1 to 3 and 15 it is as it was, and a loop has to end. */
 struct brasspurse_next_answer {
-    uint32_t start;   /* the function's first address */
-    uint32_t end;     /* the first address after it */
-    uint32_t opcode;  /* its opcode word */
-    uint32_t page;    /* the cursor for the next call, in every case */
+    uint32_t start;          /* the function's first address */
+    uint32_t end;            /* the first address after it */
+    uint32_t opcode;         /* its opcode word */
+    uint32_t page;           /* the cursor for the next call, in every case: not the function's */
     uint32_t index;
-    uint16_t outcome; /* an enum brasspurse_next_outcome */
-    uint16_t refusal; /* 0, or 1 to 11, 13 to 15 */
+    uint32_t function_page;  /* the function's own, as `page` in struct brasspurse_lookup_answer */
+    uint32_t function_index; /* and as `index` there */
+    uint8_t origin;          /* an enum brasspurse_origin */
+    uint8_t outcome;         /* an enum brasspurse_next_outcome */
+    uint8_t refusal;         /* 0, or 1 to 11, 13 to 15 */
 };
 
 /* The function at the cursor. */
@@ -314,12 +337,13 @@ struct brasspurse_fill_answer {
 };
 
 /* Writes the functions from the cursor on, as the calls of brasspurse_next one after the other
- * tell them: three numbers of `out` each, which are start, end and opcode. It stops at the end, at
- * a refusal, and when out_len / 3 are written. The numbers after them stay as they were. 1 to 3 and
- * 15 come before the room is looked at, so with any out_len; the end and the other refusals come
- * only where there is room for another function. A loop over blocks goes on after a refusal of 4
- * to 14, ends after one of 1 to 3 or 15, and needs an out_len of 3 or more: with less, a section
- * that parses is "full" for ever. */
+ * tell them: three numbers of `out` each, which are start, end and opcode, and all that a listing
+ * needs. Page, index and origin of a function are not written: brasspurse_next tells them. It stops
+ * at the end, at a refusal, and when out_len / 3 are written. The numbers after them stay as they
+ * were. 1 to 3 and 15 come before the room is looked at, so with any out_len; the end and the other
+ * refusals come only where there is room for another function. A loop over blocks goes on after a
+ * refusal of 4 to 14, ends after one of 1 to 3 or 15, and needs an out_len of 3 or more: with less,
+ * a section that parses is "full" for ever. */
 struct brasspurse_fill_answer brasspurse_fill(const uint8_t *section, size_t section_len,
                                               uint32_t page, uint32_t index, uint32_t *out,
                                               size_t out_len);
@@ -327,10 +351,10 @@ struct brasspurse_fill_answer brasspurse_fill_in(const uint8_t *section, size_t 
                                                  struct brasspurse_lists lists, uint32_t page,
                                                  uint32_t index, uint32_t *out, size_t out_len);
 
-/* Whether the section parses, so that its version is 1, its addresses rise strictly, its pages begin
- * with a function at their first address, and iteration refuses nothing. If so, no lookup in it is
- * refused, and one finds a function exactly if iteration lists it and start <= address < end. It
- * reads every function, so ask once for a section. */
+/* Whether the section parses, so that its version is 1, its addresses rise strictly, its pages
+ * begin with a function at their first address, and iteration refuses nothing. If so, no lookup in
+ * it is refused, and one finds a function exactly if iteration lists it and start <= address < end.
+ * It reads every function, so ask once for a section. */
 bool brasspurse_is_well_formed(const uint8_t *section, size_t section_len);
 
 /* Opcode words. Bits that a word's kind gives no meaning are ignored. */

@@ -1,8 +1,8 @@
 //! A second reader of sections, written from the format's description alone (docs/FORMAT.md, 1 to
 //! 6): straight, and in whole numbers.
 //!
-//! It tells what the Rust doesn't: probes, cursors, well-formedness, and answers from any cursor
-//! and any two lists.
+//! It tells what the Rust doesn't: probes, cursors, where a function came from, well-formedness,
+//! and answers from any cursor and any two lists.
 
 mod answers;
 mod bytes;
@@ -13,7 +13,8 @@ pub mod unwind;
 mod well_formed;
 
 use crate::ffi::section::{
-    Cursor, FillAnswer, Lists, LookupAnswer, NextAnswer, ParseAnswer, RangeAnswer, FOUND, REFUSED,
+    Cursor, FillAnswer, Lists, LookupAnswer, NextAnswer, ParseAnswer, RangeAnswer, FOUND,
+    IN_LOCALS, REFUSED,
 };
 pub use answers::batched;
 use answers::{filled, looked_up, stepped};
@@ -37,8 +38,16 @@ pub struct Section<'a> {
     lists: Lists,
 }
 
-/// Start, end and opcode.
-type Function = (u32, u32, u32);
+/// A function, its page and its index there, and where its opcode stands.
+#[derive(Default)]
+struct Function {
+    start: u32,
+    end: u32,
+    opcode: u32,
+    page: u32,
+    index: u32,
+    origin: u8,
+}
 
 impl<'a> Section<'a> {
     pub fn parse(section: &'a [u8]) -> Result<Self, Refusal> {
@@ -109,6 +118,11 @@ impl<'a> Section<'a> {
         Page::open(self.bytes, offset.into(), addresses)
     }
 
+    /// Whether a page opens for a lookup, and its local opcodes lie outside.
+    pub fn lacks_local_opcodes(&self, page: u32) -> bool {
+        page < self.last_page() && self.open(page).is_ok() && self.open_whole(page).is_err()
+    }
+
     fn open_whole(&self, page: u32) -> Result<Page<'a>, Refusal> {
         let opened = self.open(page)?;
         opened.grant_local_opcodes()?;
@@ -129,27 +143,36 @@ impl<'a> Section<'a> {
         };
         match self.open(page) {
             Err(refusal) => looked_up(Err(refusal), probes),
-            Ok(page) => {
-                let (index, more) = page.find(address);
-                looked_up(self.function_found(&page, index).map(Some), probes + more)
+            Ok(opened) => {
+                let (index, more) = opened.find(address);
+                let function = self.function_found(page, &opened, index);
+                looked_up(function.map(Some), probes + more)
             }
         }
     }
 
     /// The page to search for an address, if there is one, and the entries probed.
-    pub fn find_page(&self, address: u32) -> (Option<u32>, u16) {
+    pub fn find_page(&self, address: u32) -> (Option<u32>, u8) {
         let (page, probes) = search(self.pages(), address, |page| self.first_address(page));
         (page.filter(|&page| page != self.last_page()), probes)
     }
 
     /// After the search of a page: 12; 13; for a local index 11, then 14.
-    fn function_found(&self, page: &Page, index: Option<u32>) -> Result<Function, Refusal> {
-        let index = index.ok_or(12)?;
-        let (start, end) = (page.start(index)?, page.end(index)?);
-        if page.names_local_opcode(index, self.lists.global_opcodes_len) {
-            page.grant_local_opcodes()?;
+    fn function_found(
+        &self,
+        page: u32,
+        opened: &Page,
+        index: Option<u32>,
+    ) -> Result<Function, Refusal> {
+        let Some(index) = index else {
+            return Err(12);
+        };
+        opened.start(index)?;
+        opened.end(index)?;
+        if opened.origin(index, self.lists.global_opcodes_len) == IN_LOCALS {
+            opened.grant_local_opcodes()?;
         }
-        Ok((start, end, page.opcode(index, self.lists)?))
+        self.function_of(page, opened, index)
     }
 
     pub fn next(&self, (mut page, mut index): Cursor) -> NextAnswer {
@@ -160,7 +183,7 @@ impl<'a> Section<'a> {
             match self.open_whole(page) {
                 Err(refusal) => return stepped(Err(refusal), (page + 1, 0)),
                 Ok(opened) if index < opened.functions() => {
-                    let function = self.function_of(&opened, index).map(Some);
+                    let function = self.function_of(page, &opened, index).map(Some);
                     return stepped(function, (page, index + 1));
                 }
                 Ok(_) => (page, index) = (page + 1, 0),
@@ -168,10 +191,16 @@ impl<'a> Section<'a> {
         }
     }
 
-    /// In a page opened whole: start 13, end 13, then 14.
-    fn function_of(&self, page: &Page, index: u32) -> Result<Function, Refusal> {
-        let (start, end) = (page.start(index)?, page.end(index)?);
-        Ok((start, end, page.opcode(index, self.lists)?))
+    /// Whose opcode stands beside it, or in a list that is granted: start 13, end 13, then 14.
+    fn function_of(&self, page: u32, opened: &Page, index: u32) -> Result<Function, Refusal> {
+        Ok(Function {
+            start: opened.start(index)?,
+            end: opened.end(index)?,
+            opcode: opened.opcode(index, self.lists)?,
+            page,
+            index,
+            origin: opened.origin(index, self.lists.global_opcodes_len),
+        })
     }
 
     pub fn fill(&self, mut cursor: Cursor, out: &mut [u32]) -> FillAnswer {
@@ -179,8 +208,8 @@ impl<'a> Section<'a> {
         for room in out.chunks_exact_mut(3) {
             let next = self.next(cursor);
             cursor = (next.page, next.index);
-            if next.outcome != FOUND.into() {
-                return filled(functions, cursor, next.outcome, next.refusal);
+            if next.outcome != FOUND {
+                return filled(functions, cursor, next.outcome.into(), next.refusal.into());
             }
             room.copy_from_slice(&[next.start, next.end, next.opcode]);
             functions += 1;

@@ -1,7 +1,9 @@
 //! The worked examples of docs/FORMAT.md, 13: P1 to P12 by their names, and the others.
 
 use crate::ffi::frame::{step_x86_64, Registers, Step, Window};
-use crate::ffi::section::{self as sections, LookupAnswer, FOUND, NONE, REFUSED};
+use crate::ffi::section::{
+    self as sections, LookupAnswer, FOUND, IN_GLOBALS, IN_LOCALS, NONE, REFUSED,
+};
 use crate::ffi::{self, OpcodeX86_64, Permutation, PERMUTATION_REFUSED};
 use crate::sections::corpus::iterated;
 use crate::sections::small::s;
@@ -22,18 +24,30 @@ pub fn compare(report: &mut Report) {
     report.add(others);
 }
 
-/// Start, end and opcode of S's functions.
-const FIRST: (u32, u32, u32) = (0x1000, 0x1040, 0x0101_0001);
-const SECOND: (u32, u32, u32) = (0x1040, 0x1100, 0x0203_0800);
+/// Start, end and opcode; page, index, and where the opcode stands.
+type Function = (u32, u32, u32, u32, u32, u8);
+
+/// S's.
+const FIRST: Function = (0x1000, 0x1040, 0x0101_0001, 0, 0, IN_GLOBALS);
+const SECOND: Function = (0x1040, 0x1100, 0x0203_0800, 0, 1, IN_LOCALS);
 
 /// Function, outcome and refusal of a lookup.
-fn told(found: LookupAnswer) -> ((u32, u32, u32), u8, u8) {
-    let function = (found.start, found.end, found.opcode);
+fn told(found: LookupAnswer) -> (Function, u8, u8) {
+    let LookupAnswer {
+        start,
+        end,
+        opcode,
+        page,
+        index,
+        origin,
+        ..
+    } = found;
+    let function = (start, end, opcode, page, index, origin);
     (function, found.outcome, found.refusal)
 }
 
 fn lookups(tally: &mut Tally) {
-    let none = ((0, 0, 0), NONE, 0);
+    let none = ((0, 0, 0, 0, 0, 0), NONE, 0);
     for (name, address, answer) in [
         ("P1", 0x0fff, none),
         ("P2", 0x1000, (FIRST, FOUND, 0)),
@@ -152,7 +166,7 @@ fn cut_by_one(tally: &mut Tally) {
     let section = &s()[..79];
     let input = || "S's first 79 bytes".into();
     let next = sections::next(section, (0, 0));
-    tally.check(input, (next.outcome, next.refusal), (REFUSED.into(), 11));
+    tally.check(input, (next.outcome, next.refusal), (REFUSED, 11));
     let found = sections::lookup(section, 0x1000);
     tally.check(input, told(found), (FIRST, FOUND, 0));
 }

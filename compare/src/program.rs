@@ -200,10 +200,10 @@ fn listing_of(input: &[u8], enough: usize) -> String {
     while lines.len() < enough {
         let next = model::next(&section, cursor);
         cursor = (next.page, next.index);
-        if next.outcome == NONE.into() {
+        if next.outcome == NONE {
             return lines + &format!("end {functions}\n");
         }
-        if next.outcome == FOUND.into() {
+        if next.outcome == FOUND {
             functions += 1;
             let (start, end, opcode) = (next.start, next.end, next.opcode);
             lines += &format!("{start:08x} {end:08x} {opcode:08x}\n");

@@ -34,36 +34,43 @@ pub struct RangeAnswer {
 /// What a lookup tells: a function, none or an error, and the entries that it probed.
 ///
 /// The default is "none", with no probes.
-// `outcome`: 0 none, 1 function, 2 refused. What a case has not is 0. Four numbers of a batch are
-// these 16 bytes.
+// `outcome`: 0 none, 1 function, 2 refused. `origin`: 1 regular, 2 global, 3 local. What a case has
+// not is 0. Six numbers of a batch are these 24 bytes.
 #[repr(C)]
 #[derive(Clone, Copy, Debug, Default, PartialEq, Eq)]
 pub struct LookupAnswer {
     pub(crate) start: u32,
     pub(crate) end: u32,
     pub(crate) opcode: u32,
-    pub(crate) probes: u16,
+    pub(crate) page: u32,
+    pub(crate) index: u32,
+    pub(crate) origin: u8,
+    pub(crate) probes: u8,
     pub(crate) outcome: u8,
     pub(crate) refusal: u8,
 }
 
-/// `outcome`: 0 end, 1 list full, 2 refused. `page` and `index`: the cursor for the next call.
-#[repr(C)]
-pub struct FillAnswer {
-    pub functions: usize,
-    pub page: u32,
-    pub index: u32,
-    pub outcome: u16,
-    pub refusal: u16,
-}
-
 /// `outcome`: 0 end, 1 function, 2 refused. `page` and `index`: the cursor for the next call.
-#[cfg(test)]
+/// `function_page` and `function_index`: the function's own. `origin`: as in a lookup's answer.
 #[repr(C)]
 pub struct NextAnswer {
     pub start: u32,
     pub end: u32,
     pub opcode: u32,
+    pub page: u32,
+    pub index: u32,
+    pub function_page: u32,
+    pub function_index: u32,
+    pub origin: u8,
+    pub outcome: u8,
+    pub refusal: u8,
+}
+
+/// `outcome`: 0 end, 1 list full, 2 refused. `page` and `index`: the cursor for the next call.
+#[cfg(test)]
+#[repr(C)]
+pub struct FillAnswer {
+    pub functions: usize,
     pub page: u32,
     pub index: u32,
     pub outcome: u16,
@@ -169,11 +176,11 @@ const _: () = {
     assert!(size_of::<Lists>() == 16);
     assert!(size_of::<ParseAnswer>() == 20);
     assert!(size_of::<RangeAnswer>() == 12);
-    assert!(size_of::<LookupAnswer>() == 4 * size_of::<u32>());
+    assert!(size_of::<LookupAnswer>() == 6 * size_of::<u32>());
     assert!(align_of::<LookupAnswer>() == align_of::<u32>());
-    assert!(size_of::<FillAnswer>() == 24);
+    assert!(size_of::<NextAnswer>() == 32);
     #[cfg(test)]
-    assert!(size_of::<NextAnswer>() == 24);
+    assert!(size_of::<FillAnswer>() == 24);
     assert!(size_of::<PermutationAnswer>() == 12);
     assert!(size_of::<EncodingAnswer>() == 8);
     assert!(size_of::<RegisterAnswer>() == 8);
@@ -208,6 +215,14 @@ extern "C" {
         answers: *mut u32,
         room: usize,
     ) -> usize;
+    fn brasspurse_next_in(
+        section: Bytes,
+        length: usize,
+        lists: Lists,
+        page: u32,
+        index: u32,
+    ) -> NextAnswer;
+    #[cfg(test)]
     fn brasspurse_fill_in(
         section: Bytes,
         length: usize,
@@ -217,14 +232,6 @@ extern "C" {
         out: *mut u32,
         room: usize,
     ) -> FillAnswer;
-    #[cfg(test)]
-    fn brasspurse_next_in(
-        section: Bytes,
-        length: usize,
-        lists: Lists,
-        page: u32,
-        index: u32,
-    ) -> NextAnswer;
     // C's bool, as a byte.
     fn brasspurse_is_well_formed(section: Bytes, length: usize) -> u8;
 
@@ -286,8 +293,8 @@ pub fn lookup_in(section: &[u8], lists: Lists, address: u32) -> LookupAnswer {
 
 /// Gives how many answers were written.
 pub fn lookup_batch(section: &[u8], addresses: &[u32], answers: &mut [LookupAnswer]) -> usize {
-    // An answer has the size and alignment of four numbers, and any four are an answer.
-    let (numbers, room) = (answers.as_mut_ptr().cast(), 4 * answers.len());
+    // An answer has the size and alignment of six numbers, and any six are an answer.
+    let (numbers, room) = (answers.as_mut_ptr().cast(), 6 * answers.len());
     unsafe {
         brasspurse_lookup_batch(
             section.as_ptr(),
@@ -300,15 +307,16 @@ pub fn lookup_batch(section: &[u8], addresses: &[u32], answers: &mut [LookupAnsw
     }
 }
 
+#[inline]
+pub fn next_in(section: &[u8], lists: Lists, page: u32, index: u32) -> NextAnswer {
+    unsafe { brasspurse_next_in(section.as_ptr(), section.len(), lists, page, index) }
+}
+
+#[cfg(test)]
 pub fn fill_in(section: &[u8], lists: Lists, page: u32, index: u32, out: &mut [u32]) -> FillAnswer {
     let (bytes, length) = (section.as_ptr(), section.len());
     let (list, room) = (out.as_mut_ptr(), out.len());
     unsafe { brasspurse_fill_in(bytes, length, lists, page, index, list, room) }
-}
-
-#[cfg(test)]
-pub fn next_in(section: &[u8], lists: Lists, page: u32, index: u32) -> NextAnswer {
-    unsafe { brasspurse_next_in(section.as_ptr(), section.len(), lists, page, index) }
 }
 
 pub fn is_well_formed(section: &[u8]) -> bool {

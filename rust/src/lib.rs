@@ -66,6 +66,7 @@
 //!
 //! - Its `match` on [`Error`] that named every variant did not compile: it got arms for
 //!   [`Error::AddressTooLarge`], [`Error::LocalIndex`] and [`Error::WrongVersion`].
+//! - Its pattern that named every field of a [`Function`] did not compile: it got `..`.
 //! - Its tests of texts failed: those of words and of errors are others.
 //! - Its test that an [`Error::ReadError`] has a [`ReadError`] as `source()` failed: here it has none.
 //!
@@ -81,8 +82,9 @@
 //! | `Debug` of [`OpcodeBitfield`](opcodes::OpcodeBitfield), with the parts by name | derived: the word as one number | its methods |
 //! | plain Rust, for any target | x86-64 Linux alone, and a library to be made first | see "Building" |
 //!
-//! All other public items are here, with the same signatures, fields and traits: `tests/items.rs`
-//! names each, and compiles against the original too. Both crates can be had at once:
+//! All other public items are here, with the same signatures, fields and traits, and [`Function`]
+//! has three fields more: `tests/items.rs` names each, and compiles against the original too. Both
+//! crates can be had at once:
 //!
 //! ```toml
 //! original = { package = "macho-unwind-info", version = "0.5" }  # then original::raw
@@ -109,6 +111,9 @@
 //! - [`frames`] has the rule of a word, and the step by it from a frame's registers to its
 //!   caller's; [`UnwindInfo::unwind_x86_64`] and [`UnwindInfo::unwind_arm64`] look up and step in
 //!   one call.
+//! - A [`Function`] says where it came from: its page, its index there, and the [`Origin`] of its
+//!   opcode. Lookup and iteration of a well-formed section agree in these too, and
+//!   [`UnwindInfo::functions_from`] goes on from a function that was found.
 //! - [`UnwindInfo::lookup_with_probes`] counts what a lookup looked at,
 //!   [`UnwindInfo::lookup_batch`] answers many addresses in one call.
 //! - [`is_well_formed`] says whether a section has nothing wrong in it.
@@ -136,4 +141,4 @@ mod inputs;
 pub use error::{Error, PermutationError, ReadError, Refusal, UnwindError};
 pub use ffi::LookupAnswer;
 pub use function_iter::FunctionIter;
-pub use unwind_info::{is_well_formed, Function, UnwindInfo};
+pub use unwind_info::{is_well_formed, Function, Origin, UnwindInfo};

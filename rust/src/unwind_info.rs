@@ -23,6 +23,44 @@ pub struct Function {
     /// The word that describes its frame; [`opcodes`](crate::opcodes) and
     /// [`frames`](crate::frames) read it.
     pub opcode: u32,
+    /// The number of the page that lists it.
+    pub page: u32,
+    /// Its index in that page, below 65,536.
+    pub index: u32,
+    /// Where its opcode stands.
+    pub origin: Origin,
+}
+
+/// Where the section has a function's opcode.
+///
+/// ```
+/// # let section = std::fs::read(concat!(env!("CARGO_MANIFEST_DIR"), "/../sections/s.bin"))?;
+/// use macho_unwind_info::{Origin, UnwindInfo};
+///
+/// let function = UnwindInfo::parse(&section)?.lookup(0x1040)?.unwrap();
+/// assert_eq!((function.page, function.index), (0, 1));
+/// assert_eq!(function.origin, Origin::Local);
+/// # Ok::<(), Box<dyn std::error::Error>>(())
+/// ```
+#[derive(Clone, Copy, Debug, PartialEq, Eq, Hash)]
+pub enum Origin {
+    /// In the function's own entry, which is a regular page's.
+    Regular,
+    /// In the section's list of global opcodes.
+    Global,
+    /// In the page's list of local opcodes.
+    Local,
+}
+
+impl Origin {
+    pub(crate) fn from_number(number: u8) -> Origin {
+        match number {
+            1 => Origin::Regular,
+            2 => Origin::Global,
+            3 => Origin::Local,
+            _ => panic!("origin {number}: libbrasspurse.a is of another release than this crate"),
+        }
+    }
 }
 
 impl<'a> UnwindInfo<'a> {
@@ -41,7 +79,27 @@ impl<'a> UnwindInfo<'a> {
 
     /// All functions, page after page.
     pub fn functions(&self) -> FunctionIter<'a> {
-        FunctionIter::new(self.data, self.lists)
+        self.functions_from(0, 0)
+    }
+
+    /// The functions from a place on; with page and index of a [`Function`], from that one on.
+    ///
+    /// Any two numbers may be passed: an index past a page's functions means the next page's first,
+    /// and a page at or past the last one means the end. A lookup that finds a global opcode does
+    /// not ask for the page's local ones, and this does: where they lie outside the section, the
+    /// first answer is an error, [`ReadError::LocalOpcodes`](crate::ReadError::LocalOpcodes).
+    ///
+    /// ```
+    /// # let section = std::fs::read(concat!(env!("CARGO_MANIFEST_DIR"), "/../sections/s.bin"))?;
+    /// let info = macho_unwind_info::UnwindInfo::parse(&section)?;
+    /// let found = info.lookup(0x1010)?.unwrap();
+    /// let mut functions = info.functions_from(found.page, found.index);
+    /// assert_eq!(functions.next()?, Some(found));
+    /// assert_eq!(functions.next()?.unwrap().start_address, 0x1040);
+    /// # Ok::<(), Box<dyn std::error::Error>>(())
+    /// ```
+    pub fn functions_from(&self, page: u32, index: u32) -> FunctionIter<'a> {
+        FunctionIter::new(self.data, self.lists, (page, index))
     }
 
     /// From the first page's first address to the last page's; `0..0` if there are no pages.
@@ -155,6 +213,9 @@ impl LookupAnswer {
                 start_address: self.start,
                 end_address: self.end,
                 opcode: self.opcode,
+                page: self.page,
+                index: self.index,
+                origin: Origin::from_number(self.origin),
             })),
             _ => Err(Error::from_number(self.refusal.into())),
         }

@@ -62,7 +62,7 @@ fn types_have_the_originals_traits() {
     println!("{:?}", OpcodeBitfield(0));
 }
 
-/// Without an arm for any other variant, but for `Error`, which has two more here.
+/// Without an arm for any other variant, but for `Error`, which has three more here.
 #[test]
 fn variants_and_fields_have_the_originals_names_and_types() {
     fn x86_64(opcode: OpcodeX86_64) {
@@ -136,6 +136,16 @@ fn variants_and_fields_have_the_originals_names_and_types() {
             | ReadError::PageKind => {}
         }
     }
+    // It has three more fields here.
+    fn function(function: Function) -> [u32; 3] {
+        let Function {
+            start_address,
+            end_address,
+            opcode,
+            ..
+        } = function;
+        [start_address, end_address, opcode]
+    }
     x86_64(OpcodeX86_64::Null);
     arm64(OpcodeArm64::Null);
     register(RegisterNameX86_64::Rbx);
@@ -149,14 +159,5 @@ fn variants_and_fields_have_the_originals_names_and_types() {
             read_error(error);
         }
     }
-    let Function {
-        start_address,
-        end_address,
-        opcode,
-    } = Function {
-        start_address: 0_u32,
-        end_address: 0_u32,
-        opcode: 0_u32,
-    };
-    assert_eq!([start_address, end_address, opcode], [0; 3]);
+    let _: fn(Function) -> [u32; 3] = function;
 }

@@ -73,6 +73,8 @@ impl Image {
                 start_address,
                 end_address,
                 opcode,
+                // Changed: there are more fields.
+                ..
             } = function;
             let word = self.described(opcode);
             lines.push(format!("{start_address:#x}..{end_address:#x} {word}"));

@@ -1,5 +1,7 @@
 //! The part of the C interface that reads sections.
 
+use std::mem::size_of;
+
 #[repr(C)]
 #[derive(Clone, Copy, Debug, Default, PartialEq, Eq)]
 pub struct Lists {
@@ -27,18 +29,23 @@ pub struct RangeAnswer {
 }
 
 /// `outcome`: 0 none, 1 function, 2 refused. What a case has not is 0; the probes always stand.
+/// `page` and `index`: the function's.
 #[repr(C)]
 #[derive(Clone, Copy, Debug, Default, PartialEq, Eq)]
 pub struct LookupAnswer {
     pub start: u32,
     pub end: u32,
     pub opcode: u32,
-    pub probes: u16,
+    pub page: u32,
+    pub index: u32,
+    pub origin: u8,
+    pub probes: u8,
     pub outcome: u8,
     pub refusal: u8,
 }
 
-/// `outcome`: 0 end, 1 function, 2 refused. `page` and `index`: the cursor for the next call.
+/// `outcome`: 0 end, 1 function, 2 refused. `page` and `index`: the cursor for the next call;
+/// `function_page` and `function_index`: the function's.
 #[repr(C)]
 #[derive(Clone, Copy, Debug, Default, PartialEq, Eq)]
 pub struct NextAnswer {
@@ -47,8 +54,11 @@ pub struct NextAnswer {
     pub opcode: u32,
     pub page: u32,
     pub index: u32,
-    pub outcome: u16,
-    pub refusal: u16,
+    pub function_page: u32,
+    pub function_index: u32,
+    pub origin: u8,
+    pub outcome: u8,
+    pub refusal: u8,
 }
 
 /// `outcome`: 0 end, 1 list full, 2 refused. `functions`: how many were written.
@@ -62,12 +72,21 @@ pub struct FillAnswer {
     pub refusal: u16,
 }
 
+const _: () = assert!(size_of::<LookupAnswer>() == 24 && size_of::<NextAnswer>() == 32);
+
 /// `outcome` of a lookup without a function, and of an iteration at its end.
 pub const NONE: u8 = 0;
 /// `outcome` of an answer with a function, and of a list that is full.
 pub const FOUND: u8 = 1;
 /// `outcome` of a refusal.
 pub const REFUSED: u8 = 2;
+
+/// `origin` of an opcode that stands in its function's entry.
+pub const IN_ENTRY: u8 = 1;
+/// `origin` of a global opcode.
+pub const IN_GLOBALS: u8 = 2;
+/// `origin` of a local opcode of the page.
+pub const IN_LOCALS: u8 = 3;
 
 /// A page and a function index, any two numbers.
 pub type Cursor = (u32, u32);

@@ -68,7 +68,7 @@ pub fn unwind_arm64(
     unsafe { brasspurse_unwind_arm64(section, bytes, address, registers, base, window, length) }
 }
 
-/// Four numbers for each address, as far as there is room; says how many were answered.
+/// Six numbers for each address, as far as there is room; says how many were answered.
 pub fn lookup_batch(section: &[u8], addresses: &[u32], answers: &mut [u32]) -> usize {
     let (bytes, length) = (section.as_ptr(), section.len());
     let (list, room) = (answers.as_mut_ptr(), answers.len());

@@ -6,42 +6,55 @@ use crate::ffi::section::{Cursor, FillAnswer, LookupAnswer, NextAnswer, FOUND, N
 /// Outcome, refusal and function of an answer, with zeros for what it has not.
 fn parts(answer: Result<Option<Function>, Refusal>) -> (u8, Refusal, Function) {
     match answer {
-        Ok(None) => (NONE, 0, (0, 0, 0)),
+        Ok(None) => (NONE, 0, Function::default()),
         Ok(Some(function)) => (FOUND, 0, function),
-        Err(refusal) => (REFUSED, refusal, (0, 0, 0)),
+        Err(refusal) => (REFUSED, refusal, Function::default()),
     }
 }
 
-pub fn looked_up(answer: Result<Option<Function>, Refusal>, probes: u16) -> LookupAnswer {
-    let (outcome, refusal, (start, end, opcode)) = parts(answer);
+pub fn looked_up(answer: Result<Option<Function>, Refusal>, probes: u8) -> LookupAnswer {
+    let (outcome, refusal, function) = parts(answer);
     LookupAnswer {
-        start,
-        end,
-        opcode,
+        start: function.start,
+        end: function.end,
+        opcode: function.opcode,
+        page: function.page,
+        index: function.index,
+        origin: function.origin,
         probes,
         outcome,
         refusal,
     }
 }
 
-/// The four numbers of a batch's answer.
-pub fn batched(answer: LookupAnswer) -> [u32; 4] {
+/// The six numbers of a batch's answer.
+pub fn batched(answer: LookupAnswer) -> [u32; 6] {
+    let probes = 256 * u32::from(answer.probes);
     let outcome = 65_536 * u32::from(answer.outcome);
     let refusal = 16_777_216 * u32::from(answer.refusal);
-    let last = u32::from(answer.probes) + outcome + refusal;
-    [answer.start, answer.end, answer.opcode, last]
+    [
+        answer.start,
+        answer.end,
+        answer.opcode,
+        answer.page,
+        answer.index,
+        u32::from(answer.origin) + probes + outcome + refusal,
+    ]
 }
 
 pub fn stepped(answer: Result<Option<Function>, Refusal>, (page, index): Cursor) -> NextAnswer {
-    let (outcome, refusal, (start, end, opcode)) = parts(answer);
+    let (outcome, refusal, function) = parts(answer);
     NextAnswer {
-        start,
-        end,
-        opcode,
+        start: function.start,
+        end: function.end,
+        opcode: function.opcode,
         page,
         index,
-        outcome: outcome.into(),
-        refusal: refusal.into(),
+        function_page: function.page,
+        function_index: function.index,
+        origin: function.origin,
+        outcome,
+        refusal,
     }
 }
 

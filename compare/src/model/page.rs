@@ -3,7 +3,7 @@
 use super::bytes::Bytes;
 use super::search::{rise, search};
 use super::{Refusal, OPCODE};
-use crate::ffi::section::Lists;
+use crate::ffi::section::{Lists, IN_ENTRY, IN_GLOBALS, IN_LOCALS};
 
 const SENTINEL: u32 = 1;
 const REGULAR: u32 = 2;
@@ -100,7 +100,7 @@ impl<'a> Page<'a> {
     }
 
     /// The page was found by its first address, so that one isn't above the address.
-    pub fn find(&self, address: u32) -> (Option<u32>, u16) {
+    pub fn find(&self, address: u32) -> (Option<u32>, u8) {
         let sought = if self.compressed {
             address - self.first_address
         } else {
@@ -139,23 +139,34 @@ impl<'a> Page<'a> {
         self.bytes.u32(self.entry(index)) >> 24
     }
 
-    pub fn names_local_opcode(&self, index: u32, globals: u32) -> bool {
-        self.compressed && self.opcode_index(index) >= globals
+    /// A regular entry has its opcode in itself; an index below the number of global opcodes names
+    /// one of these, any other a local one.
+    pub fn origin(&self, index: u32, globals: u32) -> u8 {
+        if !self.compressed {
+            IN_ENTRY
+        } else if self.opcode_index(index) < globals {
+            IN_GLOBALS
+        } else {
+            IN_LOCALS
+        }
     }
 
     /// Of a function whose opcode stands beside it, or in a list that is granted; 14.
     pub fn opcode(&self, index: u32, lists: Lists) -> Result<u32, Refusal> {
         let globals = lists.global_opcodes_len;
-        let place = if !self.compressed {
-            self.entry(index) + 4
-        } else if !self.names_local_opcode(index, globals) {
-            u64::from(lists.global_opcodes_offset) + OPCODE * u64::from(self.opcode_index(index))
-        } else {
-            let local = self.opcode_index(index) - globals;
-            if local >= self.local_opcodes.len {
-                return Err(14);
+        let place = match self.origin(index, globals) {
+            IN_ENTRY => self.entry(index) + 4,
+            IN_GLOBALS => {
+                let offset = u64::from(lists.global_opcodes_offset);
+                offset + OPCODE * u64::from(self.opcode_index(index))
             }
-            self.local_opcodes.offset + OPCODE * u64::from(local)
+            _ => {
+                let local = self.opcode_index(index) - globals;
+                if local >= self.local_opcodes.len {
+                    return Err(14);
+                }
+                self.local_opcodes.offset + OPCODE * u64::from(local)
+            }
         };
         Ok(self.bytes.u32(place))
     }

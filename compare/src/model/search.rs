@@ -1,7 +1,7 @@
 //! The search (docs/FORMAT.md, 3).
 
 /// The last entry that the search passes by, if it passes one, and the entries probed.
-pub fn search(entries: u32, sought: u32, key: impl Fn(u32) -> u32) -> (Option<u32>, u16) {
+pub fn search(entries: u32, sought: u32, key: impl Fn(u32) -> u32) -> (Option<u32>, u8) {
     let (mut lo, mut hi, mut probes) = (0, entries, 0);
     while lo < hi {
         let mid = lo + (hi - lo) / 2;

@@ -35,7 +35,8 @@ pub trait Functions {
     fn next(&mut self) -> Told;
 }
 
-/// One answer as far as the Rust tells it: no probes, no cursor.
+/// One answer as far as the Rust tells it: no probes, no cursor, and not where a function came
+/// from.
 #[derive(Clone, Copy, PartialEq, Eq)]
 pub struct Told {
     pub outcome: u8,
@@ -116,11 +117,9 @@ impl From<LookupAnswer> for Told {
 
 impl From<NextAnswer> for Told {
     fn from(answer: NextAnswer) -> Told {
-        // A number that doesn't fit is no answer of the Rust's either.
-        let byte = |n: u16| n.try_into().unwrap_or(u8::MAX);
         Told {
-            outcome: byte(answer.outcome),
-            refusal: byte(answer.refusal),
+            outcome: answer.outcome,
+            refusal: answer.refusal,
             start: answer.start,
             end: answer.end,
             opcode: answer.opcode,

@@ -1,6 +1,6 @@
 //! Answers on sections, for a replay that needs no Rust.
 //!
-//! Little-endian numbers of 32 bits, ten for a record: tag, two inputs, and the seven of the
+//! Little-endian numbers of 32 bits, thirteen for a record: tag, two inputs, and the ten of the
 //! answer. A section's own record has its length as the first input and only zeros after that;
 //! its bytes follow, filled up with zeros to whole numbers, and then the records about it.
 
@@ -14,8 +14,10 @@ use std::io::{Error, Result};
 const SECTION: u32 = 0;
 /// Added to the tag of a record with a wrong answer.
 const CONTROL: u32 = 100;
-/// Bytes that the file may have.
-const ROOM: usize = 49_152;
+/// Bytes of a record.
+const RECORD: usize = 4 * 13;
+/// Bytes that the file may have; the replay takes 65,536.
+const ROOM: usize = 60_000;
 
 #[derive(Default)]
 struct File {
@@ -64,13 +66,13 @@ pub fn write(file: &str) -> Result<()> {
 }
 
 fn size(chosen: &Chosen) -> usize {
-    40 + chosen.section.len().next_multiple_of(4) + 40 * chosen.questions.len()
+    RECORD + chosen.section.len().next_multiple_of(4) + RECORD * chosen.questions.len()
 }
 
 impl File {
     fn section(&mut self, chosen: &Chosen) -> Result<()> {
         self.sections += 1;
-        self.record([SECTION, chosen.section.len() as u32, 0], [0; 7]);
+        self.record([SECTION, chosen.section.len() as u32, 0], Answer::default());
         self.bytes.extend_from_slice(&chosen.section);
         self.bytes.resize(self.bytes.len().next_multiple_of(4), 0);
         let witness = Witness::new(&chosen.name, &chosen.section);

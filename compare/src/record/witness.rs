@@ -3,7 +3,7 @@
 use crate::ffi::section::{Cursor, FOUND};
 use crate::model::{self, Refusal, Section};
 use crate::oracle::section::{Told, View, BUILDS};
-use crate::sections::asked::{self, Answer, Question};
+use crate::sections::asked::{self, zeros_after, Answer, Question};
 use crate::sections::keys::Keys;
 use std::collections::BTreeMap;
 use std::io::{Error, Result};
@@ -77,7 +77,7 @@ impl<'a> Witness<'a> {
                 .map(|build| Some(asked::parse((build.parse)(self.section)))),
             Question::Range => views.map(|view| {
                 let (start, end) = view.as_ref()?.address_range();
-                Some([FOUND.into(), 0, start, end, 0, 0, 0])
+                Some(zeros_after([FOUND.into(), 0, start, end]))
             }),
             Question::Lookup(address) => {
                 views.map(|view| Some(numbers(view.as_ref()?.lookup(address))))
@@ -103,16 +103,18 @@ impl<'a> Witness<'a> {
     }
 }
 
-/// What the Rust can know of an answer: neither probes nor cursors.
+/// What the Rust can know of an answer: neither where a function came from, nor probes nor cursors.
 fn known(question: Question, answer: Answer) -> Answer {
     let [outcome, refusal, start, end, opcode, ..] = answer;
     match question {
-        Question::Lookup(_) | Question::Next(_) => [outcome, refusal, start, end, opcode, 0, 0],
+        Question::Lookup(_) | Question::Next(_) => {
+            zeros_after([outcome, refusal, start, end, opcode])
+        }
         _ => answer,
     }
 }
 
 fn numbers(told: Told) -> Answer {
     let (outcome, refusal) = (told.outcome.into(), told.refusal.into());
-    [outcome, refusal, told.start, told.end, told.opcode, 0, 0]
+    zeros_after([outcome, refusal, told.start, told.end, told.opcode])
 }

@@ -14,8 +14,8 @@ pub enum Question {
     WellFormed,
 }
 
-/// Outcome, refusal, and five numbers more; zeros for what the answer has not.
-pub type Answer = [u32; 7];
+/// Outcome, refusal, and eight numbers more; zeros for what the answer has not.
+pub type Answer = [u32; 10];
 
 impl Question {
     pub fn ours(self, section: &[u8]) -> Answer {
@@ -40,21 +40,8 @@ impl Question {
     }
 }
 
-/// Start, end, opcode, probes.
+/// Start, end, opcode, page, index, origin, probes.
 fn lookup(answer: LookupAnswer) -> Answer {
-    [
-        answer.outcome.into(),
-        answer.refusal.into(),
-        answer.start,
-        answer.end,
-        answer.opcode,
-        answer.probes.into(),
-        0,
-    ]
-}
-
-/// Start, end, opcode, and the cursor for the next call.
-fn next(answer: NextAnswer) -> Answer {
     [
         answer.outcome.into(),
         answer.refusal.into(),
@@ -63,20 +50,38 @@ fn next(answer: NextAnswer) -> Answer {
         answer.opcode,
         answer.page,
         answer.index,
+        answer.origin.into(),
+        answer.probes.into(),
+        0,
+    ]
+}
+
+/// Start, end, opcode, page, index, origin, and the cursor for the next call.
+fn next(answer: NextAnswer) -> Answer {
+    [
+        answer.outcome.into(),
+        answer.refusal.into(),
+        answer.start,
+        answer.end,
+        answer.opcode,
+        answer.function_page,
+        answer.function_index,
+        answer.origin.into(),
+        answer.page,
+        answer.index,
     ]
 }
 
 /// The two lists.
 pub fn parse(ParseAnswer { refusal, lists }: ParseAnswer) -> Answer {
-    [
+    zeros_after([
         outcome(refusal),
         refusal,
         lists.global_opcodes_offset,
         lists.global_opcodes_len,
         lists.pages_offset,
         lists.pages_len,
-        0,
-    ]
+    ])
 }
 
 /// Start and end.
@@ -86,11 +91,18 @@ fn range(answer: RangeAnswer) -> Answer {
         start,
         end,
     } = answer;
-    [outcome(refusal), refusal, start, end, 0, 0, 0]
+    zeros_after([outcome(refusal), refusal, start, end])
 }
 
 fn well_formed(answer: u8) -> Answer {
-    [answer.into(), 0, 0, 0, 0, 0, 0]
+    zeros_after([answer.into()])
+}
+
+/// An answer by its first numbers.
+pub fn zeros_after<const N: usize>(first: [u32; N]) -> Answer {
+    let mut answer = Answer::default();
+    answer[..N].copy_from_slice(&first);
+    answer
 }
 
 fn outcome(refusal: u32) -> u32 {

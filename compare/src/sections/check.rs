@@ -5,6 +5,7 @@ mod fills;
 mod iteration;
 mod lists;
 mod lookups;
+mod places;
 mod sides;
 
 use super::case::Case;
@@ -23,6 +24,7 @@ pub struct Checks {
     parse: Sides,
     range: Sides,
     lookup: Sides,
+    places: Tally,
     batches: Batches,
     iteration: Sides,
     cursors: Tally,
@@ -38,6 +40,7 @@ impl Checks {
             parse: Sides::new("parse"),
             range: Sides::new("address range"),
             lookup: Sides::new("lookup"),
+            places: Tally::new("sections, next where a lookup found"),
             batches: Batches::new(),
             iteration: Sides::new("iteration"),
             cursors: Tally::new("sections, next from any cursor, model"),
@@ -52,6 +55,7 @@ impl Checks {
         for sides in [self.parse, self.range, self.lookup, self.iteration] {
             sides.add_to(report);
         }
+        report.add(self.places);
         self.batches.add_to(report);
         for tally in [self.cursors, self.fill, self.lists, self.well_formed] {
             report.add(tally);

@@ -3,6 +3,7 @@
 use super::case::Case;
 use super::check::Checks;
 use crate::ffi::section::{self as ours, LookupAnswer, FOUND, NONE, REFUSED};
+use crate::oracle::section::Told;
 use crate::tally::{Report, Tally};
 use std::fs::OpenOptions;
 use std::io::{Error, ErrorKind, Result, Write};
@@ -123,14 +124,14 @@ pub fn iterated(section: &[u8]) -> Vec<String> {
     let (mut lines, mut cursor, mut functions) = (Vec::new(), (0, 0), 0);
     loop {
         let next = ours::next(section, cursor);
-        if next.outcome == FOUND.into() {
+        if next.outcome == FOUND {
             functions += 1;
             let (start, end, opcode) = (next.start, next.end, next.opcode);
             lines.push(format!("{start:08x} {end:08x} {opcode:08x}"));
-        } else if next.outcome == REFUSED.into() {
+        } else if next.outcome == REFUSED {
             lines.push(format!("refused {}", next.refusal));
         }
-        if next.outcome == NONE.into() || cursor == (next.page, next.index) {
+        if next.outcome == NONE || cursor == (next.page, next.index) {
             lines.push(format!("end {functions}"));
             return lines;
         }
@@ -163,17 +164,19 @@ fn listed_lookups(tally: &mut Tally, real: &Real) -> Result<()> {
         return Ok(());
     }
     let lists = ours::parse(&real.bytes).lists;
+    let told = |answer: LookupAnswer| (Told::from(answer), answer.probes);
     for line in std::fs::read_to_string(&path)?.lines() {
         let (address, listed) = lookup_line(line).ok_or_else(|| malformed(&path))?;
         let input = || format!("lookup {address:#x} of {}", real.name);
-        tally.check(input, ours::lookup(&real.bytes, address), listed);
+        tally.check(input, told(ours::lookup(&real.bytes, address)), listed);
         let again = ours::lookup_in(&real.bytes, lists, address);
-        tally.check(input, again, listed);
+        tally.check(input, told(again), listed);
     }
     Ok(())
 }
 
-fn lookup_line(line: &str) -> Option<(u32, LookupAnswer)> {
+/// The address, and the answer with its probes.
+fn lookup_line(line: &str) -> Option<(u32, (Told, u8))> {
     let number = |word: &str| u32::from_str_radix(word, 16).ok();
     let words: Vec<&str> = line.split(' ').collect();
     let (address, probes, (outcome, start, end, opcode)) = match words[..] {
@@ -184,15 +187,14 @@ fn lookup_line(line: &str) -> Option<(u32, LookupAnswer)> {
         }
         _ => return None,
     };
-    let answer = LookupAnswer {
+    let answer = Told {
+        outcome,
         start,
         end,
         opcode,
-        probes: probes.parse().ok()?,
-        outcome,
-        refusal: 0,
+        ..Told::NOTHING
     };
-    Some((number(address)?, answer))
+    Some((number(address)?, (answer, probes.parse().ok()?)))
 }
 
 pub fn malformed(path: &Path) -> Error {

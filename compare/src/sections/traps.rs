@@ -6,11 +6,11 @@ mod pages;
 mod places;
 mod whole;
 
-use super::asked::{Answer, Question};
+use super::asked::{zeros_after, Answer, Question};
 use super::case::Case;
 use super::check::Checks;
 use super::small::s;
-use crate::ffi::section::Cursor;
+use crate::ffi::section::{Cursor, IN_ENTRY, IN_GLOBALS, IN_LOCALS};
 use crate::tally::{Report, Tally};
 use Question::{Lookup, Next, Parse, Range, WellFormed};
 
@@ -108,56 +108,63 @@ mod at {
     pub const LOCAL: usize = 76;
 }
 
-/// Start, end and opcode of a function.
-type Function = (u32, u32, u32);
+/// Start, end and opcode of a function; its page and index; where its opcode stands.
+type Function = ((u32, u32, u32), Cursor, u8);
 
 /// S's two functions.
-const FIRST: Function = (0x1000, 0x1040, 0x0101_0001);
-const SECOND: Function = (0x1040, 0x1100, 0x0203_0800);
+const FIRST: Function = ((0x1000, 0x1040, 0x0101_0001), (0, 0), IN_GLOBALS);
+const SECOND: Function = ((0x1040, 0x1100, 0x0203_0800), (0, 1), IN_LOCALS);
 
-fn found(address: u32, (start, end, opcode): Function, probes: u32) -> (Question, Answer) {
-    (Lookup(address), [1, 0, start, end, opcode, probes, 0])
+/// A function's answer, with what comes last in it.
+fn function(((start, end, opcode), (page, index), origin): Function, last: [u32; 2]) -> Answer {
+    let origin = origin.into();
+    let [a, b] = last;
+    [1, 0, start, end, opcode, page, index, origin, a, b]
+}
+
+fn found(address: u32, found: Function, probes: u32) -> (Question, Answer) {
+    (Lookup(address), function(found, [probes, 0]))
 }
 
 fn none(address: u32, probes: u32) -> (Question, Answer) {
-    (Lookup(address), [0, 0, 0, 0, 0, probes, 0])
+    (Lookup(address), [0, 0, 0, 0, 0, 0, 0, 0, probes, 0])
 }
 
 fn refused(address: u32, refusal: u32, probes: u32) -> (Question, Answer) {
-    (Lookup(address), [2, refusal, 0, 0, 0, probes, 0])
+    (Lookup(address), [2, refusal, 0, 0, 0, 0, 0, 0, probes, 0])
 }
 
 /// A step from a cursor, and the cursor after it.
-fn step(from: Cursor, (start, end, opcode): Function, (page, index): Cursor) -> (Question, Answer) {
-    (Next(from), [1, 0, start, end, opcode, page, index])
+fn step(from: Cursor, found: Function, (page, index): Cursor) -> (Question, Answer) {
+    (Next(from), function(found, [page, index]))
 }
 
 fn step_refused(from: Cursor, refusal: u32, (page, index): Cursor) -> (Question, Answer) {
-    (Next(from), [2, refusal, 0, 0, 0, page, index])
+    (Next(from), [2, refusal, 0, 0, 0, 0, 0, 0, page, index])
 }
 
 /// The end, which hands back the last page's number.
 fn end(from: Cursor, last_page: u32) -> (Question, Answer) {
-    (Next(from), [0, 0, 0, 0, 0, last_page, 0])
+    (Next(from), [0, 0, 0, 0, 0, 0, 0, 0, last_page, 0])
 }
 
 fn parsed(globals: (u32, u32), pages: (u32, u32)) -> (Question, Answer) {
-    let lists = [1, 0, globals.0, globals.1, pages.0, pages.1, 0];
-    (Parse, lists)
+    let lists = [1, 0, globals.0, globals.1, pages.0, pages.1];
+    (Parse, zeros_after(lists))
 }
 
 fn parse_refused(refusal: u32) -> (Question, Answer) {
-    (Parse, [2, refusal, 0, 0, 0, 0, 0])
+    (Parse, zeros_after([2, refusal]))
 }
 
 fn range(start: u32, end: u32) -> (Question, Answer) {
-    (Range, [1, 0, start, end, 0, 0, 0])
+    (Range, zeros_after([1, 0, start, end]))
 }
 
 fn range_refused(refusal: u32) -> (Question, Answer) {
-    (Range, [2, refusal, 0, 0, 0, 0, 0])
+    (Range, zeros_after([2, refusal]))
 }
 
 fn well_formed(answer: bool) -> (Question, Answer) {
-    (WellFormed, [answer.into(), 0, 0, 0, 0, 0, 0])
+    (WellFormed, zeros_after([answer.into()]))
 }

@@ -30,7 +30,7 @@ fn found(opened: &Opened, keys: &mut Keys, address: u32) -> Found {
     let mut rust = [None; 3];
     for (build, view) in opened.views() {
         if Reason::of(build, keys_rise, model.refusal.into()).is_none() {
-            rust[build] = Some(answer(view.lookup(address), model.probes));
+            rust[build] = Some(answer(view.lookup(address), model));
         }
     }
     Found {
@@ -40,15 +40,15 @@ fn found(opened: &Opened, keys: &mut Keys, address: u32) -> Found {
     }
 }
 
-/// The Rust counts no probes, so they are the model's. A panic of the build that checks sums is
-/// taken as the refusal it stands for.
-fn answer(told: Told, probes: u16) -> LookupAnswer {
+/// The Rust counts no probes and doesn't say where a function came from, so these are the model's.
+/// A panic of the build that checks sums is taken as the refusal it stands for.
+fn answer(told: Told, model: LookupAnswer) -> LookupAnswer {
     LookupAnswer {
         start: told.start,
         end: told.end,
         opcode: told.opcode,
-        probes,
         outcome: told.outcome,
         refusal: told.refusal,
+        ..model
     }
 }

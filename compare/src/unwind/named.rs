@@ -50,7 +50,7 @@ fn words<const N: usize>(machine: &Machine<N>, named: &Named<N>, tallies: &mut T
 /// What the named sections refuse or have no function for.
 fn lookups<const N: usize>(machine: &Machine<N>, case: &Case<N>, tallies: &mut Tallies) {
     for trap in traps::all() {
-        for (question, [outcome, refusal, _, _, _, probes, _]) in trap.answers {
+        for (question, [outcome, refusal, .., probes, _]) in trap.answers {
             let (Question::Lookup(address), 0 | 2) = (question, outcome) else {
                 continue;
             };

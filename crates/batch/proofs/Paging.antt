@@ -1,6 +1,6 @@
 -- Lookups of a batch: the page that was read for an address, and what the search in it tells.
 -- Assumes nothing.
-use Prim.Native.Nat.{ℕ, suc, _+_, _-_, _≤_, _<_}
+use Prim.Native.Nat.{ℕ, suc, _+_, _-_, _*_, _≤_, _<_}
 use mathlib.Core.Path.{_≡_, refl, ap, sym, subst, _∙_}
 use mathlib.Core.List.{List}
 use mathlib.Core.Bool.{Bool, cond, true, false, not}
@@ -15,17 +15,19 @@ use Rattle.search.specs.declared.Layout.{Layout}
 use Rattle.search.specs.declared.Spot.{Spot}
 use Rattle.search.specs.declared.Spots.{Spots}
 use Rattle.search.specs.Search.{countOf, searchOf, spotsIn}
+use Rattle.raw.specs.declared.Error.{Error}
 use Rattle.raw.specs.declared.Kind.{Kind}
 use Rattle.raw.specs.declared.Lists.{Lists}
 use Rattle.raw.specs.declared.Page.{Page}
 use Rattle.raw.specs.declared.PageEntry.{PageEntry}
-use Rattle.raw.specs.Checked.{Checked, good, refused}
+use Rattle.raw.specs.Checked.{Checked, good, refused, numberOf}
 use Rattle.raw.specs.Raw.{layout, globalsOf, grantOf, pagesOf, pageOf, entryOf}
 use Rattle.entries.specs.declared.Function.{Function}
 use Rattle.entries.specs.declared.Place.{Place}
-use Rattle.entries.specs.Entries.{functionsOf}
+use Rattle.entries.specs.Entries.{functionsOf, originNumber}
 use Rattle.entries.specs.Section.{firstOf, offsetOf, pageAt, functionAt, placeAt}
 use Rattle.entries.specs.Placed.{listAt, listIn, readOf}
+use Rattle.entries.proofs.One.{some-origin}
 use Rattle.entries.proofs.Places.{first-is, next-is, offset-is}
 use Rattle.entries.proofs.Placed.{list-there, list-is, same-list, at-place}
 use Rattle.lookup.specs.declared.Found.{Found}
@@ -33,14 +35,25 @@ use Rattle.lookup.specs.Lookup.{Looked, refusal, telling, fromSpot, fromPage, f
 use Rattle.lookup.proofs.Steps.{a-page}
 use Rattle.lookup.proofs.Cases as cases
 use Rattle.batch.specs.declared.Numbers.{Numbers}
-use Rattle.batch.specs.declared.four.PageFound.{PageFound}
-use Rattle.batch.specs.declared.four.Pages.{Pages}
+use Rattle.batch.specs.declared.pages.PageFound.{PageFound}
+use Rattle.batch.specs.declared.pages.Pages.{Pages}
 use Rattle.reader.proofs.Laws.{bytes-of}
-use Rattle.batch.specs.Batch.{numbersOf, putOf, fourPut, fourFound}
+use Rattle.batch.specs.Batch.{numbers, numbersOf, putOf, fourPut, fourFound}
 use Rattle.batch.specs.Pages.{Read, ReadAs, PageOf, PageFor, Granted, Searched, PagesFor, keysIn, tellOf}
 
 pub few-told : (x y : Found) → x ≡ y → probesOf (lookedTold x) ≤ 128 → probesOf (lookedTold y) ≤ 128
 few-told x y e h = rw e at h
+
+pub small-origin : (x : Found) (f : Function) (n k : ℕ) → x ≡ Found.Function f n → k ≡ originNumber (f .origin) → k < 4
+small-origin x f n k e q = omega (arith, some-origin (f .origin) .1)
+
+-- an answer's numbers, where a function was found, and where it was refused
+pub tells-function : (x : Found) (f : Function) (n k : ℕ) → x ≡ Found.Function f n → k ≡ originNumber (f .origin)
+    → numbers (f .«start_address») (f .«end_address») (f .opcode) (f .page) (f .index) (k + 256 * n + 65536) ≡ numbersOf (lookedTold x)
+tells-function x f n k e q = simp (e, q)
+
+pub tells-refusal : (x : Found) (r : Error) (n k : ℕ) → x ≡ Found.Refused r n → k ≡ numberOf r → numbers 0 0 0 0 0 (256 * n + 131072 + 16777216 * k) ≡ numbersOf (lookedTold x)
+tells-refusal x r n k e q = simp (e, q)
 
 pub put-is : (out o : List ℕ) (k : ℕ) (n m : Numbers) → o ≡ putOf out k n → n ≡ m → o ≡ putOf out k m
 put-is out o k n m e f = e ∙ ap (putOf out k) f
@@ -89,23 +102,24 @@ none-there e h = absurd (omega arith)
 
 -- a page that was read
 module _ (s : List ℕ) (kind : Kind) (probes : ℕ) where
-  pub is-read : (offset first next : ℕ) (pg : Page) → pageOf s offset first ≡ good pg → pg .kind ≡ kind → pg .«functions_len» < 4294967296
-      → ReadAs s offset first next probes kind (record { place = record { offset = offset; next = next; page = pg }; probes = probes })
-  is-read offset first next pg e k n h = record { reads = e; place = refl; kind-is = k; probed = refl; small = n }
+  pub is-read : (index offset first next : ℕ) (pg : Page) → pageOf s offset first ≡ good pg → pg .kind ≡ kind → pg .«functions_len» < 4294967296
+      → ReadAs s index offset first next probes kind (record { place = record { index = index; offset = offset; next = next; page = pg }; probes = probes })
+  is-read index offset first next pg e k n h = record { reads = e; place = refl; kind-is = k; probed = refl; small = n }
 
-  as-kind : (j : Kind) (offset first next : ℕ) (m : PageFound) → j ≡ kind → ReadAs s offset first next probes j m → ReadAs s offset first next probes kind m
-  as-kind j offset first next m e h = subst (λ (z : Kind). ReadAs s offset first next probes z m) e h
+  as-kind : (j : Kind) (index offset first next : ℕ) (m : PageFound) → j ≡ kind → ReadAs s index offset first next probes j m → ReadAs s index offset first next probes kind m
+  as-kind j index offset first next m e h = subst (λ (z : Kind). ReadAs s index offset first next probes z m) e h
 
-  read-at : (o a n o′ a′ n′ : ℕ) (m : PageFound) → o ≡ o′ → a ≡ a′ → n ≡ n′ → Read s o a n probes kind m → Read s o′ a′ n′ probes kind m
-  read-at o a n o′ a′ n′ m e f g h =
-      subst (λ (z : ℕ). Read s o′ a′ z probes kind m) g (subst (λ (z : ℕ). Read s o′ z n probes kind m) f (subst (λ (z : ℕ). Read s z a n probes kind m) e h))
+  read-at : (p o a n o′ a′ n′ : ℕ) (m : PageFound) → o ≡ o′ → a ≡ a′ → n ≡ n′ → Read s p o a n probes kind m → Read s p o′ a′ n′ probes kind m
+  read-at p o a n o′ a′ n′ m e f g h =
+      subst (λ (z : ℕ). Read s p o′ a′ z probes kind m) g (subst (λ (z : ℕ). Read s p o′ z n probes kind m) f (subst (λ (z : ℕ). Read s p z a n probes kind m) e h))
 
-pub of-kind : (s : List ℕ) (kind j : Kind) (probes offset first next : ℕ) (m : PageFound) → kind ≡ j → ReadAs s offset first next probes j m → ReadAs s offset first next probes kind m
-of-kind s kind j probes offset first next m e h = as-kind s kind probes j offset first next m (sym e) h
+pub of-kind : (s : List ℕ) (kind j : Kind) (probes index offset first next : ℕ) (m : PageFound) → kind ≡ j
+    → ReadAs s index offset first next probes j m → ReadAs s index offset first next probes kind m
+of-kind s kind j probes index offset first next m e h = as-kind s kind probes j index offset first next m (sym e) h
 
 -- the page before the place where the search of pages ended
 pub page-there : (s : List ℕ) (l : Lists) (pages : List ℕ) → pages ≡ pagesOf s l → (spot : Spot) → (spot .at ≡ 0 → ⊥) → (spot .at ≡ l .«pages_len» → ⊥) → spot .at ≤ l .«pages_len»
-    → (kind : Kind) (e : PageEntry) → e ≡ entryOf pages (spot .at - 1) → (m : PageFound) → ReadAs s (e .offset) (e .first) (e .next) (spot .probes) kind m → 0 < m .place .page .«functions_len»
+    → (kind : Kind) (e : PageEntry) → e ≡ entryOf pages (spot .at - 1) → (m : PageFound) → ReadAs s (spot .at - 1) (e .offset) (e .first) (e .next) (spot .probes) kind m → 0 < m .place .page .«functions_len»
     → PageOf s l spot kind m
 page-there s l pages ep spot h t in-list kind e ee m read some =
     let p = spot .at - 1 in
@@ -113,7 +127,7 @@ page-there s l pages ep spot h t in-list kind e ee m read some =
       p = spot .at - 1;
       ends = omega arith;
       before-last = omega arith;
-      page = read-at s kind (spot .probes) _ _ _ _ _ _ m (offset-is s l p pages ep e ee) (first-is s l p pages ep e ee) (next-is s l p pages ep e ee) (read some);
+      page = read-at s kind (spot .probes) _ _ _ _ _ _ _ m (offset-is s l p pages ep e ee) (first-is s l p pages ep e ee) (next-is s l p pages ep e ee) (read some);
     }
 
 by-layout : (list : List ℕ) (n : ℕ) (j k : Kind) → j ≡ k → countOf list (layout j) ≤ n → countOf list (layout k) ≤ n
@@ -138,10 +152,10 @@ module _ (s : List ℕ) (l : Lists) (kind : Kind) (m : PageFound) (pc : ℕ) (t 
   unfolding pageAt
   list-are x r ex e =
       let here : r ≡ listIn x (placeAt s l p pg) = e ∙ ap (listIn x) (t .page .place) in
-      let there = list-there s (offsetOf s l p) (firstOf s l (suc p)) (firstOf s l p) pg (t .page .reads) in
+      let there = list-there s p (offsetOf s l p) (firstOf s l (suc p)) (firstOf s l p) pg (t .page .reads) in
       let inside : Rattle.entries.specs.Placed.listThere (x .bytes) (placeAt s l p pg) ≡ true = rw ex there in
       list-is s (placeAt s l p pg) x r ex (here ∙ simp inside)
-      ∙ same-list s (offsetOf s l p) (firstOf s l (suc p)) (firstOf s l p) pg (t .page .reads)
+      ∙ same-list s p (offsetOf s l p) (firstOf s l (suc p)) (firstOf s l p) pg (t .page .reads)
 
   module _ (functions : List ℕ) (ef : functions ≡ functionsOf (pageAt s l p) pg) (y : ℕ) (ey : y ≡ pc - pg .base) (spot : Spot) (es : spot ≡ searchOf functions (layout kind) y) where
     count : countOf functions (layout kind) ≤ pg .«functions_len»

@@ -19,26 +19,26 @@ use Rattle.entries.specs.declared.Function.{Function}
 use Rattle.entries.specs.declared.Place.{Place}
 use Rattle.entries.specs.Section.{firstOf, offsetOf, placeAt}
 use Rattle.lookup.specs.Lookup.{Looked, refusal, telling}
-use Rattle.batch.specs.declared.four.PageFound.{PageFound}
-use Rattle.batch.specs.declared.four.Pages.{Pages}
+use Rattle.batch.specs.declared.pages.PageFound.{PageFound}
+use Rattle.batch.specs.declared.pages.Pages.{Pages}
 
 -- has functions only if the page there was read as one of the kind
-pub record Read (s : List ℕ) (offset first next probes : ℕ) (kind : Kind) (m : PageFound) : Type 0 where
+pub record Read (s : List ℕ) (index offset first next probes : ℕ) (kind : Kind) (m : PageFound) : Type 0 where
   pub reads : pageOf s offset first ≡ good (m .place .page)
-  pub place : m .place ≡ record { offset = offset; next = next; page = m .place .page }
+  pub place : m .place ≡ record { index = index; offset = offset; next = next; page = m .place .page }
   pub kind-is : m .place .page .kind ≡ kind
   pub probed : m .probes ≡ probes
   pub small : m .place .page .«functions_len» < 4294967296
 
-abbrev pub ReadAs : List ℕ → ℕ → ℕ → ℕ → ℕ → Kind → PageFound → Type 0
-ReadAs s offset first next probes kind m = 0 < m .place .page .«functions_len» → Read s offset first next probes kind m
+abbrev pub ReadAs : List ℕ → ℕ → ℕ → ℕ → ℕ → ℕ → Kind → PageFound → Type 0
+ReadAs s index offset first next probes kind m = 0 < m .place .page .«functions_len» → Read s index offset first next probes kind m
 
 -- page p of that kind, before the place where the search of pages ended
 pub record PageOf (s : List ℕ) (l : Lists) (spot : Spot) (kind : Kind) (m : PageFound) : Type 0 where
   pub p : ℕ
   pub ends : spot .at ≡ p + 1
   pub before-last : p + 1 < l .«pages_len»
-  pub page : Read s (offsetOf s l p) (firstOf s l p) (firstOf s l (suc p)) (spot .probes) kind m
+  pub page : Read s p (offsetOf s l p) (firstOf s l p) (firstOf s l (suc p)) (spot .probes) kind m
 
 -- the page of an address
 abbrev pub PageFor : List ℕ → Lists → Kind → PageFound → ℕ → Type 0

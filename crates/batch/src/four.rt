@@ -1,133 +1,42 @@
 // Four addresses side by side, so that the memory's waits of their searches overlap; each answer is the single lookup's.
 ghost use mathlib.Core.Path.{_≡_};
-ghost use mathlib.Core.Bool.{true};
 ghost use Prim.Native.Nat.{_+_, _-_, _*_, _≤_, _<_};
 ghost use lib.ListN.{length};
 ghost use Rattle.raw.specs.declared.Kind.{Kind};
-ghost use Rattle.raw.specs.Raw.{pagesOf};
 ghost use Rattle.entries.specs.Entries.{functionTold};
 ghost use Rattle.lookup.specs.Lookup.{lookupIn};
 ghost use Rattle.batch.specs.Batch.{numbersOf, putOf, fourFound};
-ghost use Rattle.batch.specs.Pages.{ReadAs, PageOf, Granted, Searched, PagesFor, keysIn, tellOf};
+ghost use Rattle.batch.specs.Pages.{Granted, Searched, PagesFor, keysIn, tellOf};
 use crate::Numbers;
 use crate::flat;
+use crate::pages::Pages;
+use crate::pages::goes_along;
+use crate::pages::page_at;
 use crate::put;
 use entries::Answer;
-use entries::Place;
 use lookup::Found;
 use raw::Error;
 use raw::Kind;
 use raw::Lists;
-use raw::Opened;
-use raw::Page;
 use search::Keys;
 use search::Spot;
 use search::Spots;
 
-// The page of an address, and the probes of its search. Where there is none it has no functions.
-struct PageFound {
-    pub place: Place,
-    pub probes: u32,
-}
-
-// The pages of four addresses.
-struct Pages {
-    pub a: PageFound,
-    pub b: PageFound,
-    pub c: PageFound,
-    pub d: PageFound,
-}
-
 fn put_lookup(s: &[u8], lists: Lists, address: u32, out: &mut [u32], k: usize)
-    requires { ⌜ 4 * k + 4 ≤ length (now out) ⌝ }
+    requires { ⌜ 6 * k + 6 ≤ length (now out) ⌝ }
     ensures { λ r. ⌜ now (out .exit) ≡ putOf (now (out .entry)) k (numbersOf (lookupIn (now (s .entry)) lists address)) ⌝ }
 {
     put(out, k, flat(lookup::lookup_in(s, lists, address)));
 }
 
 fn one_after_another(s: &[u8], lists: Lists, x: Keys, out: &mut [u32], k: usize)
-    requires { ⌜ 4 * k + 16 ≤ length (now out) ⌝ }
+    requires { ⌜ 6 * k + 24 ≤ length (now out) ⌝ }
     ensures { λ r. ⌜ now (out .exit) ≡ fourFound (lookupIn (now (s .entry)) lists) (now (out .entry)) k x ⌝ }
 {
     put_lookup(s, lists, x.a, out, k);
     put_lookup(s, lists, x.b, out, k + 1);
     put_lookup(s, lists, x.c, out, k + 2);
     put_lookup(s, lists, x.d, out, k + 3);
-}
-
-fn no_page(kind: Kind) -> PageFound
-    ensures { λ r. ⌜ r .place .page .«functions_len» ≡ 0 ⌝ }
-{
-    PageFound {
-        place: Place {
-            offset: 0,
-            next: 0,
-            page: Page {
-                kind,
-                base: 0,
-                functions_offset: 0,
-                functions_len: 0,
-                local_opcodes_offset: 0,
-                local_opcodes_len: 0,
-            },
-        },
-        probes: 0,
-    }
-}
-
-// The page there, if it is of the one kind or of the other. Each is written out for speed: so the compiler knows the kind.
-fn compressed_page(s: &[u8], offset: u32, first: u32, next: u32, probes: u32) -> PageFound
-    ensures { λ r. ⌜ ReadAs (now (s .entry)) offset first next probes Kind.Compressed r ⌝ }
-{
-    let Opened::Page(page) = raw::read_page(s, offset, first) else {
-        return no_page(Kind::Compressed);
-    };
-    let place = Place { offset, next, page };
-    let kind = page.kind;
-    match kind {
-        Kind::Compressed => PageFound { place, probes },
-        Kind::Regular => no_page(Kind::Compressed),
-    }
-}
-
-fn regular_page(s: &[u8], offset: u32, first: u32, next: u32, probes: u32) -> PageFound
-    ensures { λ r. ⌜ ReadAs (now (s .entry)) offset first next probes Kind.Regular r ⌝ }
-{
-    let Opened::Page(page) = raw::read_page(s, offset, first) else {
-        return no_page(Kind::Regular);
-    };
-    let place = Place { offset, next, page };
-    let kind = page.kind;
-    match kind {
-        Kind::Regular => PageFound { place, probes },
-        Kind::Compressed => no_page(Kind::Regular),
-    }
-}
-
-fn page_of(s: &[u8], kind: Kind, offset: u32, first: u32, next: u32, probes: u32) -> PageFound
-    ensures { λ r. ⌜ ReadAs (now (s .entry)) offset first next probes kind r ⌝ }
-{
-    match kind {
-        Kind::Compressed => compressed_page(s, offset, first, next, probes),
-        Kind::Regular => regular_page(s, offset, first, next, probes),
-    }
-}
-
-// The page of the kind where the search of pages ended.
-fn page_at(s: &[u8], lists: Lists, pages: &[u8], kind: Kind, spot: Spot) -> PageFound
-    requires { ⌜ (now pages ≡ pagesOf (now s) lists) × (spot .at ≤ lists .«pages_len») ⌝ }
-    ensures { λ r. ⌜ (0 < r .place .page .«functions_len» → PageOf (now (s .entry)) lists spot kind r) ⌝ }
-{
-    let n = lists.pages_len;
-    let at = spot.at;
-    if at == 0 {
-        return no_page(kind);
-    }
-    if at == n as usize {
-        return no_page(kind);
-    }
-    let e = raw::page_entry(pages, (at - 1) as u32);
-    page_of(s, kind, e.offset, e.first, e.next, spot.probes)
 }
 
 // The index before the place where a search ended.
@@ -174,7 +83,7 @@ fn in_compressed<'a>(
     out: &mut [u32],
     k: usize,
 )
-    requires { ⌜ PagesFor (now s) lists Kind.Compressed (now globals) m x × (4 * k + 16 ≤ length (now out)) ⌝ }
+    requires { ⌜ PagesFor (now s) lists Kind.Compressed (now globals) m x × (6 * k + 24 ≤ length (now out)) ⌝ }
     ensures { λ r. ⌜ now (out .exit) ≡ fourFound (lookupIn (now (s .entry)) lists) (now (out .entry)) k x ⌝ }
 {
     let q = search::four::search_compressed(
@@ -203,7 +112,7 @@ fn in_regular<'a>(
     out: &mut [u32],
     k: usize,
 )
-    requires { ⌜ PagesFor (now s) lists Kind.Regular (now globals) m x × (4 * k + 16 ≤ length (now out)) ⌝ }
+    requires { ⌜ PagesFor (now s) lists Kind.Regular (now globals) m x × (6 * k + 24 ≤ length (now out)) ⌝ }
     ensures { λ r. ⌜ now (out .exit) ≡ fourFound (lookupIn (now (s .entry)) lists) (now (out .entry)) k x ⌝ }
 {
     let q = search::four::search_regular(
@@ -223,17 +132,6 @@ fn in_regular<'a>(
     put(out, k + 3, tell(m.d.probes, q.d, fd));
 }
 
-// Whether a page goes along with three others: it has functions. For speed its local opcodes are asked for once, so that no read asks again.
-fn goes_along(s: &[u8], q: Place) -> bool
-    ensures { λ r. ⌜ (r ≡ true → 0 < q .page .«functions_len») ⌝ }
-{
-    let pg = q.page;
-    if pg.functions_len == 0 {
-        return false;
-    }
-    entries::has_locals(s, q)
-}
-
 // Side by side where four pages are of one kind, else one after another. For speed each page is asked for as soon as it is read.
 fn compressed_four<'a>(
     s: &'a [u8],
@@ -245,7 +143,7 @@ fn compressed_four<'a>(
     out: &mut [u32],
     k: usize,
 )
-    requires { ⌜ Searched (now s) lists (now globals) (now pages) p x × (4 * k + 16 ≤ length (now out)) ⌝ }
+    requires { ⌜ Searched (now s) lists (now globals) (now pages) p x × (6 * k + 24 ≤ length (now out)) ⌝ }
     ensures { λ r. ⌜ now (out .exit) ≡ fourFound (lookupIn (now (s .entry)) lists) (now (out .entry)) k x ⌝ }
 {
     let a = page_at(s, lists, pages, Kind::Compressed, p.a);
@@ -277,7 +175,7 @@ fn regular_four<'a>(
     out: &mut [u32],
     k: usize,
 )
-    requires { ⌜ Searched (now s) lists (now globals) (now pages) p x × (4 * k + 16 ≤ length (now out)) ⌝ }
+    requires { ⌜ Searched (now s) lists (now globals) (now pages) p x × (6 * k + 24 ≤ length (now out)) ⌝ }
     ensures { λ r. ⌜ now (out .exit) ≡ fourFound (lookupIn (now (s .entry)) lists) (now (out .entry)) k x ⌝ }
 {
     let a = page_at(s, lists, pages, Kind::Regular, p.a);
@@ -316,7 +214,7 @@ pub(crate) fn answer_four<'a>(
     out: &mut [u32],
     k: usize,
 )
-    requires { ⌜ Granted (now s) lists (now globals) (now pages) × (4 * k + 16 ≤ length (now out)) ⌝ }
+    requires { ⌜ Granted (now s) lists (now globals) (now pages) × (6 * k + 24 ≤ length (now out)) ⌝ }
     ensures { λ r. ⌜ now (out .exit) ≡ fourFound (lookupIn (now (s .entry)) lists) (now (out .entry)) k x ⌝ }
 {
     let p = search::four::search_pages(pages, x);

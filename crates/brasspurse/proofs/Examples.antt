@@ -8,6 +8,7 @@ use mathlib.Core.List.{List, [], _∷_, map}
 use Rattle.reader.specs.Reader as reader
 use Rattle.raw.specs.declared.Lists.{Lists}
 use Rattle.raw.specs.Checked.{good, refused}
+use Rattle.entries.specs.declared.Origin.{Origin}
 use Rattle.entries.specs.declared.Function.{Function}
 use Rattle.iterate.specs.Iterate.{cursor, answer, end}
 use Rattle.lookup.specs.Lookup.{found, nothing, refusal}
@@ -63,8 +64,21 @@ pub data Flat : Type 0 where
   unwind-x86-64 : «UnwindX86_64Answer» → Flat
   unwind-arm64 : «UnwindArm64Answer» → Flat
 
-abbrev function : Function
-function = record { «start_address» = 0x11; «end_address» = 0x12; opcode = 0x13 }
+abbrev function : Origin → Function
+function o = record { «start_address» = 0x11; «end_address» = 0x12; opcode = 0x13; page = 0x16; index = 0x17; origin = o }
+
+-- with a function of that origin, and without one
+abbrev looked : (origin : ℕ) → Flat
+looked o = lookup (record { start = 0x11; end = 0x12; opcode = 0x13; page = 0x16; index = 0x17; origin = o; probes = 0x14; outcome = 1; refusal = 0 })
+
+abbrev not-looked : (outcome refusal : ℕ) → Flat
+not-looked a k = lookup (record { start = 0; end = 0; opcode = 0; page = 0; index = 0; origin = 0; probes = 0x14; outcome = a; refusal = k })
+
+abbrev called : (origin : ℕ) → Flat
+called o = next (record { start = 0x11; end = 0x12; opcode = 0x13; page = 0x14; index = 0x15; «function_page» = 0x16; «function_index» = 0x17; origin = o; outcome = 1; refusal = 0 })
+
+abbrev not-called : (outcome refusal : ℕ) → Flat
+not-called a k = next (record { start = 0; end = 0; opcode = 0; page = 0x14; index = 0x15; «function_page» = 0; «function_index» = 0; origin = 0; outcome = a; refusal = k })
 
 abbrev ruling : Anchor → Ruling
 ruling a = record { refusal = numbered 21 0x14; anchor = a; distance = 0x15; return = slot 8; below = 0x16 ∷ 0x17 ∷ [] }
@@ -117,18 +131,16 @@ rows =
     ∷ (lists (parseAnswer (refused 2)), lists (record { refusal = 2; «global_opcodes_offset» = 0; «global_opcodes_len» = 0; «pages_offset» = 0; «pages_len» = 0 }))
     ∷ (range (rangeAnswer (good (record { start = 0x11; end = 0x12 }))), range (record { refusal = 0; start = 0x11; end = 0x12 }))
     ∷ (range (rangeAnswer (refused 3)), range (record { refusal = 3; start = 0; end = 0 }))
-    ∷ (lookup (lookupAnswer (nothing 0x14)), lookup (record { start = 0; end = 0; opcode = 0; probes = 0x14; outcome = 0; refusal = 0 }))
-    ∷ (lookup (lookupAnswer (found function 0x14)), lookup (record { start = 0x11; end = 0x12; opcode = 0x13; probes = 0x14; outcome = 1; refusal = 0 }))
-    ∷ (lookup (lookupAnswer (refusal 12 0x14)), lookup (record { start = 0; end = 0; opcode = 0; probes = 0x14; outcome = 2; refusal = 12 }))
-    ∷ (next (nextAnswer (end (cursor 0x14 0x15))), next (record { start = 0; end = 0; opcode = 0; page = 0x14; index = 0x15; outcome = 0; refusal = 0 }))
-    ∷ (
-      next (nextAnswer (answer (good function) (cursor 0x14 0x15))),
-      next (record { start = 0x11; end = 0x12; opcode = 0x13; page = 0x14; index = 0x15; outcome = 1; refusal = 0 }),
-    )
-    ∷ (
-      next (nextAnswer (answer (refused 14) (cursor 0x14 0x15))),
-      next (record { start = 0; end = 0; opcode = 0; page = 0x14; index = 0x15; outcome = 2; refusal = 14 }),
-    )
+    ∷ (lookup (lookupAnswer (nothing 0x14)), not-looked 0 0)
+    ∷ (lookup (lookupAnswer (found (function Origin.Regular) 0x14)), looked 1)
+    ∷ (lookup (lookupAnswer (found (function Origin.Global) 0x14)), looked 2)
+    ∷ (lookup (lookupAnswer (found (function Origin.Local) 0x14)), looked 3)
+    ∷ (lookup (lookupAnswer (refusal 12 0x14)), not-looked 2 12)
+    ∷ (next (nextAnswer (end (cursor 0x14 0x15))), not-called 0 0)
+    ∷ (next (nextAnswer (answer (good (function Origin.Regular)) (cursor 0x14 0x15))), called 1)
+    ∷ (next (nextAnswer (answer (good (function Origin.Global)) (cursor 0x14 0x15))), called 2)
+    ∷ (next (nextAnswer (answer (good (function Origin.Local)) (cursor 0x14 0x15))), called 3)
+    ∷ (next (nextAnswer (answer (refused 14) (cursor 0x14 0x15))), not-called 2 14)
     ∷ (fill (fillAnswer (filled filling.ended)), fill (filledOutcome (record { functions = 0x11; page = 0x12; index = 0x13; outcome = 0; refusal = 0 }) (0x14 ∷ [])))
     ∷ (fill (fillAnswer (filled filling.full)), fill (filledOutcome (record { functions = 0x11; page = 0x12; index = 0x13; outcome = 1; refusal = 0 }) (0x14 ∷ [])))
     ∷ (fill (fillAnswer (filled (filling.refusal 13))), fill (filledOutcome (record { functions = 0x11; page = 0x12; index = 0x13; outcome = 2; refusal = 13 }) (0x14 ∷ [])))

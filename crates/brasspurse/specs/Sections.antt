@@ -5,6 +5,7 @@ use Prim.Native.Nat.{ℕ}
 use mathlib.Core.List.{List}
 use Rattle.raw.specs.declared.Lists.{Lists}
 use Rattle.raw.specs.Checked.{Checked, good, refused}
+use Rattle.entries.specs.Entries.{originNumber}
 use Rattle.iterate.specs.declared.Cursor.{Cursor}
 use Rattle.iterate.specs.declared.Range.{Range}
 use Rattle.iterate.specs.Iterate.{Step, answer, end}
@@ -27,16 +28,57 @@ rangeAnswer (good r) = record { refusal = 0; start = r .start; end = r .end }
 rangeAnswer (refused k) = record { refusal = k; start = 0; end = 0 }
 
 -- 0 none, 1 a function, 2 refused
-abbrev pub lookupAnswer : Looked → LookupAnswer
-lookupAnswer (nothing n) = record { start = 0; end = 0; opcode = 0; probes = n; outcome = 0; refusal = 0 }
-lookupAnswer (found f n) = record { start = f .«start_address»; end = f .«end_address»; opcode = f .opcode; probes = n; outcome = 1; refusal = 0 }
-lookupAnswer (refusal k n) = record { start = 0; end = 0; opcode = 0; probes = n; outcome = 2; refusal = k }
+abbrev pub notFound : (outcome number probes : ℕ) → LookupAnswer
+notFound outcome number probes = record { start = 0; end = 0; opcode = 0; page = 0; index = 0; origin = 0; probes = probes; outcome = outcome; refusal = number }
 
--- 0 the end, 1 a function, 2 refused
+abbrev pub lookupAnswer : Looked → LookupAnswer
+lookupAnswer (nothing n) = notFound 0 0 n
+lookupAnswer (found f n) =
+    record {
+      start = f .«start_address»;
+      end = f .«end_address»;
+      opcode = f .opcode;
+      page = f .page;
+      index = f .index;
+      origin = originNumber (f .origin);
+      probes = n;
+      outcome = 1;
+      refusal = 0;
+    }
+lookupAnswer (refusal k n) = notFound 2 k n
+
+-- 0 the end, 1 a function, 2 refused; page and index are the cursor for the next call
+abbrev pub notThere : (outcome number : ℕ) → Cursor → NextAnswer
+notThere outcome number c =
+    record {
+      start = 0;
+      end = 0;
+      opcode = 0;
+      page = c .page;
+      index = c .index;
+      «function_page» = 0;
+      «function_index» = 0;
+      origin = 0;
+      outcome = outcome;
+      refusal = number;
+    }
+
 abbrev pub nextAnswer : Step → NextAnswer
-nextAnswer (end c) = record { start = 0; end = 0; opcode = 0; page = c .page; index = c .index; outcome = 0; refusal = 0 }
-nextAnswer (answer (good f) c) = record { start = f .«start_address»; end = f .«end_address»; opcode = f .opcode; page = c .page; index = c .index; outcome = 1; refusal = 0 }
-nextAnswer (answer (refused k) c) = record { start = 0; end = 0; opcode = 0; page = c .page; index = c .index; outcome = 2; refusal = k }
+nextAnswer (end c) = notThere 0 0 c
+nextAnswer (answer (good f) c) =
+    record {
+      start = f .«start_address»;
+      end = f .«end_address»;
+      opcode = f .opcode;
+      page = c .page;
+      index = c .index;
+      «function_page» = f .page;
+      «function_index» = f .index;
+      origin = originNumber (f .origin);
+      outcome = 1;
+      refusal = 0;
+    }
+nextAnswer (answer (refused k) c) = notThere 2 k c
 
 -- 0 the end, 1 the list is full, 2 refused
 abbrev pub whyNumber : fill.Why → ℕ

@@ -1,5 +1,4 @@
-// Sections: their lists, the range of addresses, lookup and iteration. The calls that end in `_in` take the places of the two lists, which
-// anyone may name: they are granted anew.
+// Sections. The calls that end in `_in` take the places of the two lists, which anyone may name: they are granted anew.
 ghost use mathlib.Core.Path.{_≡_};
 ghost use Prim.Native.Nat.{_<_};
 ghost use Rattle.raw.specs.Raw.{parseOf, listsTold};
@@ -36,13 +35,16 @@ pub struct RangeAnswer {
     pub end: u32,
 }
 
-// outcome is 0 for none, 1 for a function, 2 for a refusal with its number. 16 bytes, so that it comes back in registers.
+// outcome is 0 for none, 1 for a function, 2 for a refusal with its number; page and index are the function's, and a cursor.
 #[repr(C)]
 pub struct LookupAnswer {
     pub start: u32,
     pub end: u32,
     pub opcode: u32,
-    pub probes: u16,
+    pub page: u32,
+    pub index: u32,
+    pub origin: u8,
+    pub probes: u8,
     pub outcome: u8,
     pub refusal: u8,
 }
@@ -55,8 +57,11 @@ pub struct NextAnswer {
     pub opcode: u32,
     pub page: u32,
     pub index: u32,
-    pub outcome: u16,
-    pub refusal: u16,
+    pub function_page: u32,
+    pub function_index: u32,
+    pub origin: u8,
+    pub outcome: u8,
+    pub refusal: u8,
 }
 
 // outcome is 0 for the end, 1 where the list is full, 2 for a refusal with its number; 1, 15, 2 and 3 are refused whatever the room.
@@ -123,7 +128,7 @@ pub extern "C" fn brasspurse_address_range_in(section: &[u8], lists: Lists) -> R
 }
 
 fn flat_lookup(found: Found) -> LookupAnswer
-    requires { ⌜ probesOf (lookedTold found) < 65536 ⌝ }
+    requires { ⌜ probesOf (lookedTold found) < 256 ⌝ }
     ensures { λ r. ⌜ r ≡ lookupAnswer (lookedTold found) ⌝ }
 {
     match found {
@@ -131,23 +136,35 @@ fn flat_lookup(found: Found) -> LookupAnswer
             start: 0,
             end: 0,
             opcode: 0,
-            probes: probes as u16,
+            page: 0,
+            index: 0,
+            origin: 0,
+            probes: probes as u8,
             outcome: 0,
             refusal: 0,
         },
-        Found::Function { function, probes } => LookupAnswer {
-            start: function.start_address,
-            end: function.end_address,
-            opcode: function.opcode,
-            probes: probes as u16,
-            outcome: 1,
-            refusal: 0,
-        },
+        Found::Function { function, probes } => {
+            let origin = function.origin;
+            LookupAnswer {
+                start: function.start_address,
+                end: function.end_address,
+                opcode: function.opcode,
+                page: function.page,
+                index: function.index,
+                origin: origin.number(),
+                probes: probes as u8,
+                outcome: 1,
+                refusal: 0,
+            }
+        }
         Found::Refused { error, probes } => LookupAnswer {
             start: 0,
             end: 0,
             opcode: 0,
-            probes: probes as u16,
+            page: 0,
+            index: 0,
+            origin: 0,
+            probes: probes as u8,
             outcome: 2,
             refusal: error.number(),
         },
@@ -168,8 +185,8 @@ pub extern "C" fn brasspurse_lookup_in(section: &[u8], lists: Lists, address: u3
     flat_lookup(lookup::lookup_in(section, lists, address))
 }
 
-// Looks up as many of the addresses as there is room for, and says how many. Answer i is the four numbers from 4 * i on: start, end, opcode,
-// and probes + 65,536 * outcome + 16,777,216 * refusal, which are the 16 bytes of a LookupAnswer.
+// Looks up as many of the addresses as there is room for, and says how many. Answer i is the six numbers from 6 * i on: start, end, opcode,
+// page, index, and origin + 256 * probes + 65,536 * outcome + 16,777,216 * refusal, which are the 24 bytes of a LookupAnswer.
 #[no_mangle]
 pub extern "C" fn brasspurse_lookup_batch(
     section: &[u8],
@@ -191,26 +208,38 @@ fn flat_next(next: Next) -> NextAnswer
             opcode: 0,
             page: next.page,
             index: next.index,
+            function_page: 0,
+            function_index: 0,
+            origin: 0,
             outcome: 0,
             refusal: 0,
         },
-        Next::Function { function, next } => NextAnswer {
-            start: function.start_address,
-            end: function.end_address,
-            opcode: function.opcode,
-            page: next.page,
-            index: next.index,
-            outcome: 1,
-            refusal: 0,
-        },
+        Next::Function { next, function } => {
+            let origin = function.origin;
+            NextAnswer {
+                start: function.start_address,
+                end: function.end_address,
+                opcode: function.opcode,
+                page: next.page,
+                index: next.index,
+                function_page: function.page,
+                function_index: function.index,
+                origin: origin.number(),
+                outcome: 1,
+                refusal: 0,
+            }
+        }
         Next::Refused { error, next } => NextAnswer {
             start: 0,
             end: 0,
             opcode: 0,
             page: next.page,
             index: next.index,
+            function_page: 0,
+            function_index: 0,
+            origin: 0,
             outcome: 2,
-            refusal: error.number() as u16,
+            refusal: error.number(),
         },
     }
 }

@@ -1,18 +1,38 @@
 -- The parts of a page's functions, case by case, on plain values.
 -- Assumes nothing.
 use Prim.Native.Nat.{ℕ, suc, _+_, _-_, _*_, _/_, _≤_, _<_}
-use mathlib.Core.Path.{_≡_, refl, sym, _∙_}
+use mathlib.Core.Path.{_≡_, refl, ap, sym, _∙_}
 use mathlib.Core.List.{List, []}
 use mathlib.Core.Bool.{Bool, true, false, cond, not, _||_}
 use native.Mathlib.Omega.{arith}
-use borrow.Author.Tests.{lt-ltb, le-ltb, le-leb, not-true, not-false}
+use borrow.Author.Tests.{lt-ltb, le-ltb, le-leb, ltb-true, ltb-false, not-true, not-false}
+use lib.Dec.{ltb}
 use lib.ListN.{length}
 use Rattle.reader.specs.Reader.{value, outside, grantedOf, readOf, wordAt, Slice, slice, partIn}
 use Rattle.reader.proofs.Laws.{fits, was-word, was-granted, was-refused}
 use Rattle.raw.specs.declared.Kind.{Kind}
 use Rattle.raw.specs.declared.Page.{Page}
 use Rattle.raw.specs.Checked.{Checked, good, refused}
-use Rattle.entries.specs.Entries.{fourOf, fourIn, isGlobal, opcodePart, opcodePartIn, startIn, endIn, resolveOf, opcodeIn}
+use Rattle.entries.specs.declared.Origin.{Origin}
+use Rattle.entries.specs.Entries.{fourOf, fourIn, isGlobal, opcodePart, opcodePartIn, startIn, endIn, resolveOf, opcodeIn, paletteOf, originIn, from}
+
+-- a test of an index
+module _ (globals : List ℕ) (index : ℕ) where
+  pub global-below : isGlobal globals index ≡ true → index < length globals / 4
+  unfolding isGlobal
+  global-below t = ltb-true _ _ t
+
+  pub local-above : isGlobal globals index ≡ false → length globals / 4 ≤ index
+  unfolding isGlobal
+  local-above t = ltb-false _ _ t
+
+  pub is-palette : (b : Bool) → b ≡ isGlobal globals index → cond b Origin.Global Origin.Local ≡ paletteOf globals index
+  unfolding paletteOf
+  is-palette b e = ap (λ (t : Bool). cond t Origin.Global Origin.Local) e
+
+  pub tests-global : ltb index (length globals / 4) ≡ isGlobal globals index
+  unfolding isGlobal
+  tests-global = refl
 
 -- four bytes that are there, or none
 module _ (x : Slice) (o : ℕ) where
@@ -81,11 +101,14 @@ module _ (functions : List ℕ) (pg : Page) (next i : ℕ) where
 
 -- the opcode by the page's kind
 module _ (globals locals : List ℕ) (there : Bool) (functions : List ℕ) (i : ℕ) where
-  pub regular-opcode : (k : Kind) (x : ℕ) → k ≡ Kind.Regular → x ≡ wordAt 4 functions (8 * i + 4) → good x ≡ opcodeIn k globals locals there functions i
-  unfolding opcodeIn
+  abbrev opcode : Kind → Checked (ℕ × Origin)
+  opcode k = from (originIn k globals functions i) (opcodeIn k globals locals there functions i)
+
+  pub regular-opcode : (k : Kind) (x : ℕ) → k ≡ Kind.Regular → x ≡ wordAt 4 functions (8 * i + 4) → good (x, Origin.Regular) ≡ opcode k
+  unfolding opcodeIn originIn
   regular-opcode k x p e = simp (e, p)
 
-  pub compressed-opcode : (k : Kind) (x : ℕ) (w : Checked ℕ) → k ≡ Kind.Compressed → x ≡ wordAt 4 functions (4 * i)
-      → w ≡ resolveOf globals locals there (x / 16777216) → w ≡ opcodeIn k globals locals there functions i
-  unfolding opcodeIn
+  pub compressed-opcode : (k : Kind) (x : ℕ) (w : Checked (ℕ × Origin)) → k ≡ Kind.Compressed → x ≡ wordAt 4 functions (4 * i)
+      → w ≡ from (paletteOf globals (x / 16777216)) (resolveOf globals locals there (x / 16777216)) → w ≡ opcode k
+  unfolding opcodeIn originIn
   compressed-opcode k x w p e q = q ∙ simp (sym e, p)

@@ -3,3 +3,4 @@ pub mod Places
 pub mod One
 pub mod Placed
 pub mod Numbers
+pub mod Origins

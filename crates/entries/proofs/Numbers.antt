@@ -23,9 +23,9 @@ module _ (globals locals : List ℕ) (there : Bool) where
       let index = wordAt 4 functions (4 * i) / 16777216 in
       two 11 14 refl refl (isGlobal globals index || there) (grantedOf 4 (opcodePart globals locals index) 0) _
 
-  of-function : (functions : List ℕ) (pg : Page) (next i : ℕ) → Behind (functionIn globals locals there functions pg next i)
+  of-function : (p : ℕ) (functions : List ℕ) (pg : Page) (next i : ℕ) → Behind (functionIn p globals locals there functions pg next i)
   unfolding functionIn
-  of-function functions pg next i =
+  of-function p functions pg next i =
       by (ltb (startIn functions pg i) 4294967296) (ltb (endIn functions pg next i) 4294967296) (opcodeIn (pg .kind) globals locals there functions i) _ (of-opcode (pg .kind) functions i)
     where
       by : (b d : Bool) (x : Checked ℕ) (f : ℕ → Function) → Behind x → Behind (_>>_ (check 13 b) (_>>_ (check 13 d) (_>>=_ x (λ opcode. good (f opcode)))))
@@ -37,7 +37,7 @@ module _ (globals locals : List ℕ) (there : Bool) where
 module _ (s : List ℕ) (l : Lists) (p : ℕ) where
   pub of-function-at : (pg : Page) (i : ℕ) → Behind (functionAt s l p pg i)
   unfolding functionAt functionOf
-  of-function-at pg i = of-function _ _ _ _ pg _ i
+  of-function-at pg i = of-function _ _ _ p _ pg _ i
 
   pub of-opened-at : Behind (openedAt s l p)
   unfolding openedAt

@@ -1,13 +1,13 @@
 -- What is read by a page's place, step by step, on plain values; and after the page was read it is the page's function.
 -- Assumes nothing.
 use Prim.Native.Nat.{ℕ, zero, suc, _+_, _-_, _*_, _/_, _%_, _^_, _≤_, _<_}
-use mathlib.Core.Path.{_≡_, refl, ap, sym, _∙_}
+use mathlib.Core.Path.{_≡_, refl, ap, sym, subst, _∙_}
 use mathlib.Core.List.{List, []}
-use mathlib.Core.Bool.{Bool, true, false, not, cond, _||_}
+use mathlib.Core.Bool.{Bool, true, false, not, cond, _||_, _&&_}
 use native.Mathlib.Omega.{arith}
 use native.Mathlib.Decide.{decLt, decLe}
-use borrow.Author.Tests.{lt-ltb, le-ltb, lt-leb, le-leb}
-use lib.Dec.{ltb, leb}
+use borrow.Author.Tests.{ltb-true, lt-ltb, le-ltb, lt-leb, le-leb}
+use lib.Dec.{T, ltb, leb}
 use lib.ListN.{length, take, drop, length-drop}
 use Rattle.reader.specs.Reader.{value, outside, grantedOf, readOf, wordAt, partOf, Slice, slice, further, partIn}
 use Rattle.reader.proofs.Laws as reading
@@ -20,13 +20,14 @@ use Rattle.raw.specs.declared.Lists.{Lists}
 use Rattle.raw.specs.Raw.{layout, globalsOf, pageOf, localsGranted}
 use Rattle.raw.proofs.Opens.{starts-inside, functions-granted}
 use Rattle.raw.specs.Checked.{Checked, good, refused, numberOf}
+use Rattle.entries.specs.declared.Origin.{Origin}
 use Rattle.entries.specs.declared.Function.{Function}
 use Rattle.entries.specs.declared.Entry.{Entry}
 use Rattle.entries.specs.declared.Place.{Place}
 use Rattle.entries.specs.declared.Resolved.{Resolved}
-use Rattle.entries.specs.Entries.{fourOf, fourIn, isGlobal, opcodePart, opcodePartIn, startIn, endIn, resolveOf, opcodeIn, functionIn, functionsOf, localsOf, functionOf, opcodeTold}
+use Rattle.entries.specs.Entries.{fourOf, fourIn, isGlobal, opcodePart, opcodePartIn, startIn, endIn, resolveOf, opcodeIn, paletteOf, originIn, from, functionIn, functionsOf, localsOf, functionOf, opcodeTold}
 use Rattle.entries.specs.Section.{firstOf, offsetOf, pageAt, functionAt, placeAt}
-use Rattle.entries.specs.Placed.{firstAt, sizeAt, listThere, listAt, listIn, localsThere, localsAt, noEntry, readOf as readPlaced, entryIn, opcodeFor, spanning}
+use Rattle.entries.specs.Placed.{firstAt, sizeAt, listThere, entryThere, listAt, listIn, localsThere, localsAt, noEntry, readOf as readPlaced, entryIn, opcodeFor, spanning}
 use Rattle.entries.proofs.Cases.{four-part, four-none, part-global, part-local, no-locals, no-opcode, an-opcode, end-inside, end-last}
 
 -- sums and parts of equal numbers
@@ -191,8 +192,8 @@ module _ (s globals : List ℕ) (q : Place) (index : ℕ) (there : Bool) (et : t
 pub word-of : (list l : List ℕ) (o x : ℕ) → list ≡ l → x ≡ wordAt 4 list o → x ≡ wordAt 4 l o
 word-of list l o x e h = rw e at h
 
-pub spans : (start end : ℕ) (v w : Resolved) → v ≡ w → spanning start end (opcodeTold w) ≡ spanning start end (opcodeTold v)
-spans start end v w e = ap (λ (x : Resolved). spanning start end (opcodeTold x)) (sym e)
+pub spans : (q : Place) (i start end : ℕ) (v w : Resolved) → v ≡ w → spanning q i start end (opcodeTold w) ≡ spanning q i start end (opcodeTold v)
+spans q i start end v w e = ap (λ (x : Resolved). spanning q i start end (opcodeTold x)) (sym e)
 
 -- an entry, by the page's kind
 pub entry-there : (k j : Kind) (n i m : ℕ) → j ≡ k → sizeOf (layout j) * n ≤ m → i < n → sizeOf (layout k) * i + sizeOf (layout k) ≤ m
@@ -237,16 +238,29 @@ past-is list pg next i after e = by-place (decLt (i + 1) (pg .«functions_len»)
     by-place (no h) = ap (λ (x : Entry). x .start) (e ∙ sym (no-entry list pg next (i + 1) (omega arith))) ∙ sym (end-last list pg next i (omega arith))
 
 -- the checks of a read
+module _ (s : List ℕ) (q : Place) (i : ℕ) where
+  pub entry-listed : entryThere s q i ≡ true → (listThere s q ≡ true) × (i < q .page .«functions_len»)
+  unfolding entryThere
+  entry-listed t = by (ltb i (q .page .«functions_len»)) (listThere s q) t (ltb-true i (q .page .«functions_len»))
+    where
+      by : (b d : Bool) → b && d ≡ true → (b ≡ true → i < q .page .«functions_len») → (d ≡ true) × (i < q .page .«functions_len»)
+      by true d e f = (e, f refl)
+      by false d e f = absurd (subst T (sym e) tt)
+
+  pub tests-entry : (b : Bool) → i < q .page .«functions_len» → b ≡ listThere s q → b ≡ entryThere s q i
+  unfolding entryThere
+  tests-entry b h e = e ∙ simp (lt-ltb i (q .page .«functions_len») h)
+
+  pub past-entries : q .page .«functions_len» ≤ i → false ≡ entryThere s q i
+  unfolding entryThere
+  past-entries h = simp (le-ltb i (q .page .«functions_len») h)
+
 module _ (s globals : List ℕ) (q : Place) (i : ℕ) where
-  pub not-list : listThere s q ≡ false → (e : Error) → e ≡ noEntry (q .page .kind) → refused (numberOf e) ≡ readPlaced s globals q i
+  pub not-there : entryThere s q i ≡ false → (e : Error) → e ≡ noEntry (q .page .kind) → refused (numberOf e) ≡ readPlaced s globals q i
   unfolding readPlaced
-  not-list t e p = ap (λ (x : Error). refused (numberOf x)) p ∙ simp t
+  not-there t e p = ap (λ (x : Error). refused (numberOf x)) p ∙ simp t
 
   module _ (t : listThere s q ≡ true) where
-    pub not-listed : q .page .«functions_len» ≤ i → (e : Error) → e ≡ noEntry (q .page .kind) → refused (numberOf e) ≡ readPlaced s globals q i
-    unfolding readPlaced
-    not-listed h e p = ap (λ (x : Error). refused (numberOf x)) p ∙ simp (t, le-ltb i (q .page .«functions_len») h)
-
     module _ (h : i < q .page .«functions_len») (list : List ℕ) (el : list ≡ listAt s q)
         (here : Entry) (eh : here ≡ entryIn list (q .page) (q .next) i) (after : Entry) (ea : after ≡ entryIn list (q .page) (q .next) (i + 1)) where
       starts : startIn (listAt s q) (q .page) i ≡ here .start
@@ -256,11 +270,11 @@ module _ (s globals : List ℕ) (q : Place) (i : ℕ) where
       ends = ap (λ (x : List ℕ). endIn x (q .page) (q .next) i) (sym el) ∙ sym (past-is list (q .page) (q .next) i after ea)
 
       start-high : 4294967296 ≤ here .start → refused 13 ≡ readPlaced s globals q i
-      unfolding readPlaced functionIn
+      unfolding readPlaced entryThere functionIn
       start-high k = simp (t, lt-ltb i (q .page .«functions_len») h, starts, le-ltb (here .start) 4294967296 k)
 
       end-high : here .start < 4294967296 → 4294967296 ≤ after .start → refused 13 ≡ readPlaced s globals q i
-      unfolding readPlaced functionIn
+      unfolding readPlaced entryThere functionIn
       end-high j k = simp (t, lt-ltb i (q .page .«functions_len») h, starts, ends, lt-ltb (here .start) 4294967296 j, le-ltb (after .start) 4294967296 k)
 
       -- one test for both
@@ -271,19 +285,20 @@ module _ (s globals : List ℕ) (q : Place) (i : ℕ) where
           by-start (no n) = start-high (omega arith)
           by-start (yes y) = end-high y (omega (arith, some))
 
-      pub is-read : here .start < 4294967296 → after .start < 4294967296 → (w : Checked ℕ) → w ≡ opcodeFor s globals q i
-          → spanning (here .start) (after .start) w ≡ readPlaced s globals q i
-      unfolding readPlaced functionIn
-      is-read j k w e = by w e
+      pub is-read : here .start < 4294967296 → after .start < 4294967296 → (w : Checked (ℕ × Origin)) → w ≡ opcodeFor s globals q i
+          → spanning q i (here .start) (after .start) w ≡ readPlaced s globals q i
+      unfolding readPlaced entryThere functionIn
+      is-read j k w e = ap (spanning q i (here .start) (after .start)) e ∙ by (opcodeIn (q .page .kind) globals (localsAt s q) (localsThere s q) (listAt s q) i) refl
         where
-          by : (v : Checked ℕ) → v ≡ opcodeFor s globals q i → spanning (here .start) (after .start) v ≡ readPlaced s globals q i
-          by (good x) f = simp (t, lt-ltb i (q .page .«functions_len») h, starts, ends, lt-ltb (here .start) 4294967296 j, lt-ltb (after .start) 4294967296 k, sym f)
-          by (refused x) f = simp (t, lt-ltb i (q .page .«functions_len») h, starts, ends, lt-ltb (here .start) 4294967296 j, lt-ltb (after .start) 4294967296 k, sym f)
+          by : (v : Checked ℕ) → opcodeIn (q .page .kind) globals (localsAt s q) (localsThere s q) (listAt s q) i ≡ v
+              → spanning q i (here .start) (after .start) (from (originIn (q .page .kind) globals (listAt s q) i) v) ≡ readPlaced s globals q i
+          by (good x) f = simp (t, lt-ltb i (q .page .«functions_len») h, starts, ends, lt-ltb (here .start) 4294967296 j, lt-ltb (after .start) 4294967296 k, f)
+          by (refused x) f = simp (t, lt-ltb i (q .page .«functions_len») h, starts, ends, lt-ltb (here .start) 4294967296 j, lt-ltb (after .start) 4294967296 k, f)
 
 -- a page that was read: what is read by its place is its function
-module _ (s : List ℕ) (offset next first : ℕ) (pg : Page) (read : pageOf s offset first ≡ good pg) where
+module _ (s : List ℕ) (p offset next first : ℕ) (pg : Page) (read : pageOf s offset first ≡ good pg) where
   abbrev place : Place
-  place = record { offset = offset; next = next; page = pg }
+  place = record { index = p; offset = offset; next = next; page = pg }
 
   starts-in : offset + 4 ≤ length s
   starts-in = starts-inside s offset first pg read
@@ -312,12 +327,12 @@ module _ (s : List ℕ) (offset next first : ℕ) (pg : Page) (read : pageOf s o
           reading.was-refused _ s _ (reading.refused _ s _ (omega arith))
           ∙ sym (reading.was-refused _ (drop offset s) _ (reading.refused _ (drop offset s) _ (omega (arith, starts-in, length-drop offset s))))
 
-  pub placed : (globals : List ℕ) (i : ℕ) → i < pg .«functions_len» → readPlaced s globals place i ≡ functionOf (drop offset s) pg globals next i
-  unfolding readPlaced functionOf
+  pub placed : (globals : List ℕ) (i : ℕ) → i < pg .«functions_len» → readPlaced s globals place i ≡ functionOf (drop offset s) pg p globals next i
+  unfolding readPlaced entryThere functionOf
   placed globals i h = simp (list-there, lt-ltb i (pg .«functions_len») h, same-list, same-locals, same-there)
 
 -- function i of page p
 pub at-place : (s : List ℕ) (l : Lists) (p : ℕ) (pg : Page) → pageOf s (offsetOf s l p) (firstOf s l p) ≡ good pg → (i : ℕ) → i < pg .«functions_len»
     → readPlaced s (globalsOf s l) (placeAt s l p pg) i ≡ functionAt s l p pg i
 unfolding functionAt pageAt
-at-place s l p pg read i h = placed s (offsetOf s l p) (firstOf s l (suc p)) (firstOf s l p) pg read (globalsOf s l) i h
+at-place s l p pg read i h = placed s p (offsetOf s l p) (firstOf s l (suc p)) (firstOf s l p) pg read (globalsOf s l) i h

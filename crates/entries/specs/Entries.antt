@@ -11,6 +11,7 @@ use Rattle.raw.specs.declared.Kind.{Kind}
 use Rattle.raw.specs.declared.Page.{Page}
 use Rattle.raw.specs.Checked.{Checked, good, refused, _>>=_, _>>_, check, numberOf}
 use Rattle.raw.specs.Raw.{layout, localsGranted}
+use Rattle.entries.specs.declared.Origin.{Origin}
 use Rattle.entries.specs.declared.Function.{Function}
 use Rattle.entries.specs.declared.Answer.{Answer}
 use Rattle.entries.specs.declared.Resolved.{Resolved}
@@ -60,12 +61,34 @@ unfoldable pub opcodeIn : Kind → List ℕ → List ℕ → Bool → List ℕ �
 opcodeIn Kind.Regular globals locals there functions i = good (wordAt 4 functions (8 * i + 4))
 opcodeIn Kind.Compressed globals locals there functions i = resolveOf globals locals there (wordAt 4 functions (4 * i) / 16777216)
 
-unfoldable pub functionIn : List ℕ → List ℕ → Bool → List ℕ → Page → ℕ → ℕ → Checked Function
-functionIn globals locals there functions pg next i = do
+-- 2.9: where function i's opcode comes from; and the number of that, where 0 is left for no function
+unfoldable pub paletteOf : List ℕ → ℕ → Origin
+paletteOf globals index = cond (isGlobal globals index) Origin.Global Origin.Local
+
+unfoldable pub originIn : Kind → List ℕ → List ℕ → ℕ → Origin
+originIn Kind.Regular globals functions i = Origin.Regular
+originIn Kind.Compressed globals functions i = paletteOf globals (wordAt 4 functions (4 * i) / 16777216)
+
+abbrev pub originNumber : Origin → ℕ
+originNumber Origin.Regular = 1
+originNumber Origin.Global = 2
+originNumber Origin.Local = 3
+
+-- function i of page p
+unfoldable pub functionIn : ℕ → List ℕ → List ℕ → Bool → List ℕ → Page → ℕ → ℕ → Checked Function
+functionIn p globals locals there functions pg next i = do
   check 13 (ltb (startIn functions pg i) 4294967296)
   check 13 (ltb (endIn functions pg next i) 4294967296)
   opcode ← opcodeIn (pg .kind) globals locals there functions i
-  good (record { «start_address» = startIn functions pg i; «end_address» = endIn functions pg next i; opcode = opcode })
+  good (
+      record {
+        «start_address» = startIn functions pg i;
+        «end_address» = endIn functions pg next i;
+        opcode = opcode;
+        page = p;
+        index = i;
+        origin = originIn (pg .kind) globals functions i;
+      })
 
 -- over the page
 module _ (page : List ℕ) (pg : Page) where
@@ -78,14 +101,19 @@ module _ (page : List ℕ) (pg : Page) where
   unfoldable pub opcodeOf : List ℕ → ℕ → Checked ℕ
   opcodeOf globals i = opcodeIn (pg .kind) globals (localsOf page pg) (localsGranted page pg) (functionsOf page pg) i
 
-  unfoldable pub functionOf : List ℕ → (next : ℕ) → ℕ → Checked Function
-  functionOf globals next i = functionIn globals (localsOf page pg) (localsGranted page pg) (functionsOf page pg) pg next i
+  unfoldable pub functionOf : (p : ℕ) → List ℕ → (next : ℕ) → ℕ → Checked Function
+  functionOf p globals next i = functionIn p globals (localsOf page pg) (localsGranted page pg) (functionsOf page pg) pg next i
 
 -- what the answers tell
 abbrev pub functionTold : Answer → Checked Function
 functionTold (Answer.Function f) = good f
 functionTold (Answer.Refused e) = refused (numberOf e)
 
-abbrev pub opcodeTold : Resolved → Checked ℕ
-opcodeTold (Resolved.Opcode x) = good x
+-- for the helpers: an opcode with where it comes from
+abbrev pub from : Origin → Checked ℕ → Checked (ℕ × Origin)
+from o (good x) = good (x, o)
+from o (refused k) = refused k
+
+abbrev pub opcodeTold : Resolved → Checked (ℕ × Origin)
+opcodeTold (Resolved.Opcode x o) = good (x, o)
 opcodeTold (Resolved.Refused e) = refused (numberOf e)

@@ -7,22 +7,43 @@ ghost use lib.ListN.{length};
 ghost use Rattle.reader.specs.Reader.{wordAt, sliceTold, partIn};
 ghost use Rattle.search.specs.Search.{sizeOf};
 ghost use Rattle.raw.specs.declared.Error.{Error};
-ghost use Rattle.raw.specs.Raw.{layout, pageTold};
-ghost use Rattle.entries.specs.Section.{openedAt};
-ghost use Rattle.entries.specs.Entries.{opcodePartIn, resolveOf, functionTold, opcodeTold};
-ghost use Rattle.entries.specs.Placed.{firstAt, sizeAt, listThere, listAt, listIn, localsThere, localsAt, noEntry, readOf, entryIn, opcodeFor, spanning};
+ghost use Rattle.raw.specs.Raw.{layout};
+ghost use Rattle.entries.specs.Entries.{isGlobal, paletteOf, opcodePartIn, resolveOf, originNumber, functionTold, from, opcodeTold};
+ghost use Rattle.entries.specs.Placed.{firstAt, sizeAt, listThere, entryThere, listAt, listIn, localsThere, localsAt, noEntry, readOf, entryIn, opcodeFor, spanning};
 use raw::Error;
 use raw::Kind;
-use raw::Lists;
-use raw::Opened;
 use raw::Page;
 use search::Layout;
 
-// The end stands last for speed: beside the start it would be loaded with it at once, where each was stored by itself, and wait for both.
+// Where an opcode stands: in the function's own entry of a regular page, in the section's global list, or in the page's local one.
+pub enum Origin {
+    Regular,
+    Global,
+    Local,
+}
+
+impl Origin {
+    // 0 is left for no function.
+    pub fn number(self) -> u8
+        ensures { λ r. ⌜ r ≡ originNumber self ⌝ }
+    {
+        match self {
+            Origin::Regular => 1,
+            Origin::Global => 2,
+            Origin::Local => 3,
+        }
+    }
+}
+
+// Page and index are the cursor at which iteration answers this function. The order is for speed: values that stand side by side here and in
+// a flat answer are loaded at once, and have to wait where each was stored by itself.
 pub struct Function {
     pub start_address: u32,
     pub opcode: u32,
+    pub origin: Origin,
+    pub page: u32,
     pub end_address: u32,
+    pub index: u32,
 }
 
 pub enum Answer {
@@ -30,15 +51,16 @@ pub enum Answer {
     Refused(Error),
 }
 
-// A page's place: its offset in the section, the next page's first address, and what it was read as. Any numbers.
+// A page's place: its index, its offset in the section, the next page's first address, and what it was read as. Any numbers.
 pub struct Place {
+    pub index: u32,
     pub offset: u32,
     pub next: u32,
     pub page: Page,
 }
 
 enum Resolved {
-    Opcode(u32),
+    Opcode { opcode: u32, origin: Origin },
     Refused(Error),
 }
 
@@ -95,6 +117,17 @@ fn has_list(s: &[u8], q: Place) -> bool
     first_of(q) + size_of(q) <= s.len()
 }
 
+// Whether the list has entry i, and lies in the section.
+fn has_entry(s: &[u8], q: Place, i: u32) -> bool
+    ensures { λ r. ⌜ r ≡ entryThere (now (s .entry)) q i ⌝ }
+{
+    let pg = q.page;
+    if pg.functions_len <= i {
+        return false;
+    }
+    has_list(s, q)
+}
+
 fn list_at(s: &[u8], q: Place) -> &[u8]
     requires { ⌜ listThere (now s) q ≡ true ⌝ }
     ensures { λ r. ⌜ sliceTold r ≡ partIn (sliceTold (s .entry)) (firstAt q) (sizeAt q) ⌝ }
@@ -135,6 +168,23 @@ fn locals_at(s: &[u8], q: Place, there: bool) -> &[u8]
     inside(s, at, 4 * pg.local_opcodes_len as usize)
 }
 
+// Whether an opcode's index names a global one.
+fn is_global(globals: &[u8], index: u32) -> bool
+    ensures { λ r. ⌜ r ≡ isGlobal (now (globals .entry)) index ⌝ }
+{
+    (index as usize) < globals.len() / 4
+}
+
+fn palette_of(globals: &[u8], index: u32) -> Origin
+    ensures { λ r. ⌜ r ≡ paletteOf (now (globals .entry)) index ⌝ }
+{
+    if is_global(globals, index) {
+        Origin::Global
+    } else {
+        Origin::Local
+    }
+}
+
 // The four bytes of the opcode that the index names, a part of the one palette or of the other; an empty part where it names none.
 pub fn opcode_part<'a>(globals: &'a [u8], locals: &'a [u8], index: u32) -> &'a [u8]
     ensures { λ r. ⌜ sliceTold r ≡ opcodePartIn (sliceTold (globals .entry)) (sliceTold (locals .entry)) index ⌝ }
@@ -145,7 +195,7 @@ pub fn opcode_part<'a>(globals: &'a [u8], locals: &'a [u8], index: u32) -> &'a [
     if i >= n + m {
         return &locals[..0];
     }
-    if i < n {
+    if is_global(globals, index) {
         return inside(globals, 4 * i, 4);
     }
     inside(locals, 4 * (i - n), 4)
@@ -163,14 +213,17 @@ fn unnamed(there: bool) -> Error
 
 // The opcode that the index names.
 fn named<'a>(s: &'a [u8], globals: &'a [u8], q: Place, index: u32) -> Resolved
-    ensures { λ r. ⌜ opcodeTold r ≡ resolveOf (now (globals .entry)) (localsAt (now (s .entry)) q) (localsThere (now (s .entry)) q) index ⌝ }
+    ensures { λ r. ⌜ opcodeTold r ≡ from (paletteOf (now (globals .entry)) index) (resolveOf (now (globals .entry)) (localsAt (now (s .entry)) q) (localsThere (now (s .entry)) q) index) ⌝ }
 {
     let there = has_locals(s, q);
     let bytes = opcode_part(globals, locals_at(s, q, there), index);
     if bytes.len() < 4 {
         return Resolved::Refused(unnamed(there));
     }
-    Resolved::Opcode(word(bytes, 0))
+    Resolved::Opcode {
+        opcode: word(bytes, 0),
+        origin: palette_of(globals, index),
+    }
 }
 
 // Entry i of a list; past the last, the next page's first address.
@@ -213,7 +266,10 @@ fn opcode_at<'a>(
     let pg = q.page;
     let kind = pg.kind;
     match kind {
-        Kind::Regular => Resolved::Opcode(word(list, search::REGULAR_ENTRY * i + 4)),
+        Kind::Regular => Resolved::Opcode {
+            opcode: word(list, search::REGULAR_ENTRY * i + 4),
+            origin: Origin::Regular,
+        },
         Kind::Compressed => named(s, globals, q, first / search::COMPRESSED_KEYS),
     }
 }
@@ -228,16 +284,19 @@ fn no_entry(kind: Kind) -> Error
     }
 }
 
-// The function from a start to an end that fit.
-fn function_to(start: u64, end: u64, opcode: Resolved) -> Answer
+// Function i of the page, from a start to an end that fit.
+fn function_to(q: Place, i: u32, start: u64, end: u64, opcode: Resolved) -> Answer
     requires { ⌜ (start < 4294967296) × (end < 4294967296) ⌝ }
-    ensures { λ r. ⌜ functionTold r ≡ spanning start end (opcodeTold opcode) ⌝ }
+    ensures { λ r. ⌜ functionTold r ≡ spanning q i start end (opcodeTold opcode) ⌝ }
 {
     match opcode {
-        Resolved::Opcode(opcode) => Answer::Function(Function {
+        Resolved::Opcode { opcode, origin } => Answer::Function(Function {
             start_address: start as u32,
             end_address: end as u32,
             opcode,
+            page: q.index,
+            index: i,
+            origin,
         }),
         Resolved::Refused(error) => Answer::Refused(error),
     }
@@ -251,10 +310,7 @@ pub fn read<'a>(s: &'a [u8], globals: &'a [u8], q: Place, i: u32) -> Answer
     let next = q.next;
     let kind = pg.kind;
     let k = i as usize;
-    if !has_list(s, q) {
-        return Answer::Refused(no_entry(kind));
-    }
-    if pg.functions_len <= i {
+    if !has_entry(s, q, i) {
         return Answer::Refused(no_entry(kind));
     }
     let list = list_at(s, q);
@@ -264,18 +320,6 @@ pub fn read<'a>(s: &'a [u8], globals: &'a [u8], q: Place, i: u32) -> Answer
     if here.start / 4294967296 + after.start / 4294967296 > 0 {
         return Answer::Refused(Error::AddressTooLarge);
     }
-    function_to(
-        here.start,
-        after.start,
-        opcode_at(s, globals, q, list, k, here.word),
-    )
-}
-
-// Page p, opened whole.
-pub fn open_at(s: &[u8], lists: Lists, p: u32) -> Opened
-    ensures { λ r. ⌜ pageTold r ≡ openedAt (now (s .entry)) lists p ⌝ }
-{
-    let pages = raw::pages(s, lists);
-    let e = raw::page_entry(pages, p);
-    raw::open_page(s, e.offset, e.first)
+    let opcode = opcode_at(s, globals, q, list, k, here.word);
+    function_to(q, i, here.start, after.start, opcode)
 }

@@ -116,14 +116,14 @@ module _ {s : List ℕ} {l : Lists} {p : ℕ} {pg : Page} (h : p + 1 < l .«page
       one-more (goes-on inv w (omega arith)) x (omega arith) (one-good s l p pg h o _ m x (omega arith) u (sym (same m u) ∙ e))
 
 -- after a page was opened and its functions were written
-abbrev placeOf : PageEntry → Page → Place
-placeOf e pg = record { offset = e .offset; next = e .next; page = pg }
+abbrev placeOf : ℕ → PageEntry → Page → Place
+placeOf p e pg = record { index = p; offset = e .offset; next = e .next; page = pg }
 
 module _ {s : List ℕ} {l : Lists} {c₀ : Cursor} {out₀ out out′ globals : List ℕ} {k p i : ℕ} {pages : List ℕ} {entry : PageEntry} {w : Opened} {pg : Page} {r : Paged} (inv : OnWay s l c₀ out₀ k p i out)
     (h : p + 1 < l .«pages_len») (eg : globals ≡ globalsOf s l) (ep : pages ≡ pagesOf s l) (ee : entry ≡ entryOf pages p) (ew : pageTold w ≡ openOf s (entry .offset) (entry .first)) (e : w ≡ Opened.Page pg)
-    (f : PageFilled (readOf s globals (placeOf entry pg)) (pg .«functions_len») k i out r out′) where
+    (f : PageFilled (readOf s globals (placeOf p entry pg)) (pg .«functions_len») k i out r out′) where
   abbrev q : Place
-  q = placeOf entry pg
+  q = placeOf p entry pg
 
   opens : openedAt s l p ≡ good pg
   opens = sym (opens-there s l p pages ep entry ee _ ew) ∙ ap pageTold e
@@ -132,7 +132,7 @@ module _ {s : List ℕ} {l : Lists} {c₀ : Cursor} {out₀ out out′ globals :
   unfolding openedAt functionAt pageAt
   same j t =
       rw (offset-is s l p pages ep entry ee, next-is s l p pages ep entry ee, eg)
-      (placed s (offsetOf s l p) (firstOf s l (suc p)) (firstOf s l p) pg (opened-reads s (offsetOf s l p) (firstOf s l p) pg opens .0) (globalsOf s l) j t)
+      (placed s p (offsetOf s l p) (firstOf s l (suc p)) (firstOf s l p) pg (opened-reads s (offsetOf s l p) (firstOf s l p) pg opens .0) (globalsOf s l) j t)
 
   room-is : length out / 3 ≡ length out₀ / 3
   room-is = ap (λ (n : ℕ). n / 3) (same-length inv)

@@ -119,7 +119,12 @@ fn fill_of(s: &[u8], lists: Lists, c: Cursor, out: &mut [u32]) -> Filled
                 return stopped(k, p + 1, 0, Stop::Refused(error));
             }
             Opened::Page(page) => {
-                let place = Place { offset, next, page };
+                let place = Place {
+                    index: p,
+                    offset,
+                    next,
+                    page,
+                };
                 let r = fill_page(s, globals, place, i, k, out);
                 let stop = r.stop;
                 k = r.functions;

@@ -34,8 +34,8 @@ module _ (s : List ℕ) (l : Lists) where
   module _ (p : ℕ) (pages : List ℕ) (ep : pages ≡ pagesOf s l) where
     -- a function of it
     pub function-there : (w : Checked Function) (globals : List ℕ) (pg : Page) (entry : PageEntry) (i : ℕ) → globals ≡ globalsOf s l → entry ≡ entryOf pages p
-        → openedAt s l p ≡ good pg → i < pg .«functions_len» → w ≡ readOf s globals (record { offset = entry .offset; next = entry .next; page = pg }) i → w ≡ functionAt s l p pg i
+        → openedAt s l p ≡ good pg → i < pg .«functions_len» → w ≡ readOf s globals (record { index = p; offset = entry .offset; next = entry .next; page = pg }) i → w ≡ functionAt s l p pg i
     unfolding functionAt pageAt openedAt
     function-there w globals pg entry i eg ee opened h e =
         let read = opened-reads s (offsetOf s l p) (firstOf s l p) pg opened .0 in
-        e ∙ (simp (eg, next-is s l p pages ep entry ee, offset-is s l p pages ep entry ee)) ∙ placed s (offsetOf s l p) (firstOf s l (suc p)) (firstOf s l p) pg read (globalsOf s l) i h
+        e ∙ (simp (eg, next-is s l p pages ep entry ee, offset-is s l p pages ep entry ee)) ∙ placed s p (offsetOf s l p) (firstOf s l (suc p)) (firstOf s l p) pg read (globalsOf s l) i h

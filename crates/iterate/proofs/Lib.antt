@@ -5,3 +5,4 @@ pub mod Cases
 pub mod One
 pub mod Left
 pub mod Numbers
+pub mod Where

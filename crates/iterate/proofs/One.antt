@@ -17,12 +17,12 @@ use Rattle.iterate.specs.Iterate.{Step, answer, end, nextTold, nextIn, n
 use Rattle.iterate.specs.Range.{rangeTold, rangeIn, rangeOn}
 
 abbrev nextFor : Step → Next
-nextFor (answer (good f) c) = Next.Function f c
+nextFor (answer (good f) c) = Next.Function c f
 nextFor (answer (refused k) c) = Next.Refused (errorOf k) c
 nextFor (end c) = Next.End c
 
 next-back : LeftInverse nextFor nextTold
-next-back (Next.Function f c) = refl
+next-back (Next.Function c f) = refl
 next-back (Next.Refused e c) = ap (λ k. Next.Refused k c) (error-back e)
 next-back (Next.End c) = refl
 

@@ -23,7 +23,7 @@ pub data Step : Type 0 where
   end : Cursor → Step
 
 abbrev pub nextTold : Next → Step
-nextTold (Next.Function f c) = answer (good f) c
+nextTold (Next.Function c f) = answer (good f) c
 nextTold (Next.Refused e c) = answer (refused (numberOf e)) c
 nextTold (Next.End c) = end c
 

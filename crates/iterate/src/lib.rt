@@ -2,6 +2,7 @@
 ghost use mathlib.Core.Path.{_≡_};
 ghost use Prim.Native.Nat.{_+_, _<_};
 ghost use Rattle.raw.specs.Checked.{good};
+ghost use Rattle.raw.specs.Raw.{pageTold};
 ghost use Rattle.entries.specs.Entries.{functionTold};
 ghost use Rattle.entries.specs.Section.{openedAt, functionAt};
 ghost use Rattle.iterate.specs.Iterate.{answer, endCursor, nextOf, nextIn, nextOn, nextTold};
@@ -22,7 +23,7 @@ pub struct Cursor {
 }
 
 pub enum Next {
-    Function { function: Function, next: Cursor },
+    Function { next: Cursor, function: Function },
     Refused { error: Error, next: Cursor },
     End { next: Cursor },
 }
@@ -74,7 +75,7 @@ fn answered(a: Answer, next: Cursor) -> Next
     ensures { λ r. ⌜ nextTold r ≡ answer (functionTold a) next ⌝ }
 {
     match a {
-        Answer::Function(function) => Next::Function { function, next },
+        Answer::Function(function) => Next::Function { next, function },
         Answer::Refused(error) => Next::Refused { error, next },
     }
 }
@@ -93,6 +94,15 @@ pub fn end_cursor(lists: Lists) -> Cursor
     }
 }
 
+// Page p, opened whole.
+fn open_at(s: &[u8], lists: Lists, p: u32) -> Opened
+    ensures { λ r. ⌜ pageTold r ≡ openedAt (now (s .entry)) lists p ⌝ }
+{
+    let pages = raw::pages(s, lists);
+    let e = raw::page_entry(pages, p);
+    raw::open_page(s, e.offset, e.first)
+}
+
 // Function i of page p, which was opened.
 fn function_at(s: &[u8], lists: Lists, p: u32, page: Page, i: u32) -> Answer
     requires { ⌜ (openedAt (now s) lists p ≡ good page) × (i < page .«functions_len») ⌝ }
@@ -101,6 +111,7 @@ fn function_at(s: &[u8], lists: Lists, p: u32, page: Page, i: u32) -> Answer
     let pages = raw::pages(s, lists);
     let e = raw::page_entry(pages, p);
     let place = Place {
+        index: p,
         offset: e.offset,
         next: e.next,
         page,
@@ -115,7 +126,7 @@ fn next_of(s: &[u8], lists: Lists, c: Cursor) -> Next
     let mut p = c.page;
     let mut i = c.index;
     while (p as u64 + 1) < pages as u64 {
-        match entries::open_at(s, lists, p) {
+        match open_at(s, lists, p) {
             Opened::Refused(error) => {
                 return Next::Refused {
                     error,

@@ -80,7 +80,7 @@ module _ (s : List ℕ) (l : Lists) (pages : List ℕ) (ep : pages ≡ pagesOf s
 
     module _ (pg : Page) (q : w ≡ Opened.Page pg) where
       pub page-found : (globals : List ℕ) (next : ℕ) (x : Looked) → globals ≡ globalsOf s l → next ≡ firstOf s l (suc p)
-          → x ≡ searchedIn globals (drop o s) pg next pc probes → x ≡ atPage s l pc p probes
+          → x ≡ searchedIn p globals (drop o s) pg next pc probes → x ≡ atPage s l pc p probes
       unfolding atPage fromPage searchedIn foundIn fromSpot functionAt pageAt
       page-found globals next x eg en ex =
           ex ∙ (simp (eg, en, eo)) ∙ ap (λ (v : Opened). fromPage s l pc p probes (pageTold v)) (sym q) ∙ ap (fromPage s l pc p probes) reads
@@ -94,11 +94,11 @@ module _ (s : List ℕ) (q : Place) (list : List ℕ) (el : list ≡ listAt s q)
 
   module _ (read : WasRead s q) (globals : List ℕ) (pc probes y : ℕ) (ey : y ≡ pc - q .page .base) (r : Spot) (er : r ≡ searchOf list (layout (q .page .kind)) y) where
     abbrev pub Searched : Looked
-    Searched = searchedIn globals (drop (q .offset) s) (q .page) (q .next) pc probes
+    Searched = searchedIn (q .index) globals (drop (q .offset) s) (q .page) (q .next) pc probes
 
-    searched : foundIn globals (drop (q .offset) s) (q .page) (q .next) probes r ≡ Searched
+    searched : foundIn (q .index) globals (drop (q .offset) s) (q .page) (q .next) probes r ≡ Searched
     unfolding searchedIn
-    searched = ap (foundIn globals (drop (q .offset) s) (q .page) (q .next) probes) (er ∙ simp (el ∙ same-list s (q .offset) (q .next) (read .0) (q .page) (read .1), ey))
+    searched = ap (foundIn (q .index) globals (drop (q .offset) s) (q .page) (q .next) probes) (er ∙ simp (el ∙ same-list s (q .index) (q .offset) (q .next) (read .0) (q .page) (read .1), ey))
 
     pub finds-none : r .at ≡ 0 → refusal 12 (probes + r .probes) ≡ Searched
     unfolding foundIn
@@ -108,5 +108,5 @@ module _ (s : List ℕ) (q : Place) (list : List ℕ) (el : list ≡ listAt s q)
     unfolding foundIn
     finds-one x a h ea ex =
         let inside : r .at - 1 < q .page .«functions_len» = omega (arith, within list (layout (q .page .kind)) y (q .page .«functions_len») r er few-functions) in
-        ex ∙ ap (telling (probes + r .probes)) (ea ∙ placed s (q .offset) (q .next) (read .0) (q .page) (read .1) globals (r .at - 1) inside)
+        ex ∙ ap (telling (probes + r .probes)) (ea ∙ placed s (q .index) (q .offset) (q .next) (read .0) (q .page) (read .1) globals (r .at - 1) inside)
         ∙ sym (simp (ne-eqb (r .at) 0 h)) ∙ searched

@@ -4,3 +4,4 @@ pub mod Cases
 pub mod Probes
 pub mod One
 pub mod Numbers
+pub mod Where

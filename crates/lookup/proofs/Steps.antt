@@ -8,7 +8,7 @@ use Rattle.search.specs.declared.Spot.{Spot}
 use Rattle.raw.specs.declared.Lists.{Lists}
 use Rattle.raw.specs.declared.Page.{Page}
 use Rattle.entries.specs.Section.{functionAt}
-use Rattle.lookup.specs.Lookup.{nothing, telling, fromSpot, atPage, fromPages}
+use Rattle.lookup.specs.Lookup.{nothing, refusal, telling, fromSpot, atPage, fromPages}
 
 -- after the search of pages
 module _ (s : List ℕ) (l : Lists) (pc : ℕ) (spot : Spot) where
@@ -29,3 +29,7 @@ module _ (s : List ℕ) (l : Lists) (p : ℕ) (pg : Page) (probes : ℕ) (spot :
   pub a-function : (spot .at ≡ 0 → ⊥) → fromSpot s l p pg probes spot ≡ telling (probes + spot .probes) (functionAt s l p pg (spot .at - 1))
   unfolding fromSpot
   a-function h = simp (ne-eqb (spot .at) 0 h)
+
+  pub no-function : spot .at ≡ 0 → fromSpot s l p pg probes spot ≡ refusal 12 (probes + spot .probes)
+  unfolding fromSpot
+  no-function e = simp (eq-eqb (spot .at) 0 e)

@@ -71,7 +71,7 @@ fn functions_of(s: &[u8], q: Place) -> &[u8]
 // In a page of the one kind or of the other. Each is written out for speed: so the compiler knows the kind in the search and in the read.
 fn in_regular<'a>(s: &'a [u8], globals: &'a [u8], q: Place, pc: u32, probes: u32) -> Found
     requires { ⌜ (probes ≤ 64) × WasRead (now s) q × (q .page .kind ≡ Kind.Regular) ⌝ }
-    ensures { λ r. ⌜ lookedTold r ≡ searchedIn (now (globals .entry)) (drop (q .offset) (now (s .entry))) (q .page) (q .next) pc probes ⌝ }
+    ensures { λ r. ⌜ lookedTold r ≡ searchedIn (q .index) (now (globals .entry)) (drop (q .offset) (now (s .entry))) (q .page) (q .next) pc probes ⌝ }
 {
     let pg = q.page;
     let spot = search::search_regular(functions_of(s, q), above(pc, pg.base));
@@ -88,7 +88,7 @@ fn in_regular<'a>(s: &'a [u8], globals: &'a [u8], q: Place, pc: u32, probes: u32
 
 fn in_compressed<'a>(s: &'a [u8], globals: &'a [u8], q: Place, pc: u32, probes: u32) -> Found
     requires { ⌜ (probes ≤ 64) × WasRead (now s) q × (q .page .kind ≡ Kind.Compressed) ⌝ }
-    ensures { λ r. ⌜ lookedTold r ≡ searchedIn (now (globals .entry)) (drop (q .offset) (now (s .entry))) (q .page) (q .next) pc probes ⌝ }
+    ensures { λ r. ⌜ lookedTold r ≡ searchedIn (q .index) (now (globals .entry)) (drop (q .offset) (now (s .entry))) (q .page) (q .next) pc probes ⌝ }
 {
     let pg = q.page;
     let spot = search::search_compressed(functions_of(s, q), above(pc, pg.base));
@@ -106,7 +106,7 @@ fn in_compressed<'a>(s: &'a [u8], globals: &'a [u8], q: Place, pc: u32, probes: 
 // In a page that was read.
 fn in_page<'a>(s: &'a [u8], globals: &'a [u8], q: Place, pc: u32, probes: u32) -> Found
     requires { ⌜ (probes ≤ 64) × WasRead (now s) q ⌝ }
-    ensures { λ r. ⌜ lookedTold r ≡ searchedIn (now (globals .entry)) (drop (q .offset) (now (s .entry))) (q .page) (q .next) pc probes ⌝ }
+    ensures { λ r. ⌜ lookedTold r ≡ searchedIn (q .index) (now (globals .entry)) (drop (q .offset) (now (s .entry))) (q .page) (q .next) pc probes ⌝ }
 {
     let pg = q.page;
     let kind = pg.kind;
@@ -128,7 +128,12 @@ fn at_page(s: &[u8], lists: Lists, pages: &[u8], pc: u32, p: u32, probes: u32) -
     let n = lists.global_opcodes_len as usize;
     match read_page(s, offset, e.first) {
         Opened::Page(page) => {
-            let place = Place { offset, next, page };
+            let place = Place {
+                index: p,
+                offset,
+                next,
+                page,
+            };
             in_page(s, inside(s, at, 4 * n), place, pc, probes)
         }
         Opened::Refused(error) => Found::Refused { error, probes },

@@ -8,7 +8,7 @@ use Rattle.reader.specs.Reader.{numberAt, grantedOf, readOf, wordAt, partOf}
 use Rattle.search.specs.Search.{countOf, keyOf, mid, more, rounds, run, searchOf}
 use Rattle.raw.specs.Raw as raw
 use Rattle.raw.specs.Raw.{grantOf, headerOf, globalsOf, pagesOf, firstIn, offsetIn, regularOf, compressedOf, byKind, pageOf, localsGranted}
-use Rattle.entries.specs.Entries.{functionsOf, localsOf, fourOf, isGlobal, opcodePart, startIn, endIn, resolveOf, opcodeIn, functionIn, functionOf}
+use Rattle.entries.specs.Entries.{functionsOf, localsOf, fourOf, isGlobal, opcodePart, startIn, endIn, resolveOf, opcodeIn, paletteOf, originIn, functionIn, functionOf}
 use Rattle.entries.specs.Section.{firstOf, offsetOf, pageAt, functionAt}
 use Rattle.lookup.specs.Lookup.{Looked, found, nothing, fromSpot, fromPage, atPage, fromPages, lookupOf, lookupOn}
 use Rattle.well_formed.proofs.Examples.{S, first, second}
@@ -73,5 +73,5 @@ rows =
     ∷ []
 
 pub P1-to-P12 : map (λ (r : Row). answer (r .asked)) rows ≡ map (λ (r : Row). r .answered) rows
-unfolding numberAt grantedOf readOf wordAt partOf countOf keyOf mid more rounds run searchOf grantOf headerOf raw.parseOf globalsOf pagesOf firstIn offsetIn regularOf compressedOf byKind pageOf localsGranted functionsOf localsOf fourOf isGlobal opcodePart startIn endIn resolveOf opcodeIn functionIn functionOf firstOf offsetOf pageAt functionAt fromSpot fromPage atPage fromPages lookupOf lookupOn permuted.rows permuted.bounds decodeOf parseOf ruleOf stepOf
+unfolding numberAt grantedOf readOf wordAt partOf countOf keyOf mid more rounds run searchOf grantOf headerOf raw.parseOf globalsOf pagesOf firstIn offsetIn regularOf compressedOf byKind pageOf localsGranted functionsOf localsOf fourOf isGlobal opcodePart startIn endIn resolveOf opcodeIn paletteOf originIn functionIn functionOf firstOf offsetOf pageAt functionAt fromSpot fromPage atPage fromPages lookupOf lookupOn permuted.rows permuted.bounds decodeOf parseOf ruleOf stepOf
 P1-to-P12 = refl

@@ -145,6 +145,17 @@ pub part-of-part : (s : List ℕ) (p o m : ℕ) → partOf (drop p s) o m ≡ pa
 unfolding partOf
 part-of-part s p o m = ap (take m) (drop-drop o p s)
 
+-- and a word in a part that lies inside is the whole's
+taken : (n m : ℕ) (s : List ℕ) (o : ℕ) → o + n ≤ m → numberAt n (take m s) o ≡ numberAt n s o
+unfolding numberAt
+taken zero m s o h = refl
+taken (suc n) m s o h = simp (getD-take m s o 0 (omega arith), taken n m s (suc o) (omega arith))
+
+pub word-in-part : (n : ℕ) (s : List ℕ) (o m k : ℕ) → o + m ≤ length s → k + n ≤ m → wordAt n (partOf s o m) k ≡ wordAt n s (o + k)
+unfolding partOf
+word-in-part n s o m k h t =
+    there n (partOf s o m) k (omega (arith, length-part s o m h)) ∙ taken n m (drop o s) k t ∙ part n o s k ∙ sym (there n s (o + k) (omega arith))
+
 -- a part of bytes is bytes
 pub bytes-tail : (s : List ℕ) (o : ℕ) → Bytes s → Bytes (drop o s)
 bytes-tail s o b i = rw getD-drop (b (o + i))

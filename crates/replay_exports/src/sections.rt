@@ -1,6 +1,6 @@
 // 13 address_range_in: lists; 14 lookup_in: lists and address; 15 next_in: lists, page and index; 16 fill: how many numbers are lent, page and
 // index; 17 fill_in: the same and lists; 18 lookup_batch: how many numbers are lent, how many addresses there are, and nine addresses. A list to
-// write has 40 numbers, each 7 before the call, and the first ones of it are lent.
+// write has 60 numbers, each 7 before the call, and the first ones of it are lent.
 ghost use Rattle.io.specs.Counts.{Counts};
 use brasspurse::sections::FillAnswer;
 use brasspurse::sections::LookupAnswer;
@@ -45,8 +45,23 @@ fn lookup_in(section: &[u8], asked: &[u8]) {
 }
 
 fn put_lookup(found: LookupAnswer) {
-    put_32(&[found.start, found.end, found.opcode]);
-    put_16(&[found.probes, found.outcome as u16, found.refusal as u16]);
+    put_32(
+        &[
+            found.start,
+            found.end,
+            found.opcode,
+            found.page,
+            found.index,
+        ],
+    );
+    put_16(
+        &[
+            found.origin as u16,
+            found.probes as u16,
+            found.outcome as u16,
+            found.refusal as u16,
+        ],
+    );
 }
 
 fn next_in(section: &[u8], asked: &[u8]) {
@@ -60,11 +75,12 @@ fn next_in(section: &[u8], asked: &[u8]) {
 
 fn put_next(next: NextAnswer) {
     put_32(&[next.start, next.end, next.opcode, next.page, next.index]);
-    put_16(&[next.outcome, next.refusal]);
+    put_32(&[next.function_page, next.function_index]);
+    put_16(&[next.origin as u16, next.outcome as u16, next.refusal as u16]);
 }
 
 fn lent(tag: u32, section: &[u8], asked: &[u8]) {
-    let mut list = [7u32; 40];
+    let mut list = [7u32; 60];
     lend(tag, section, asked, &mut list);
     put_32(&list);
 }

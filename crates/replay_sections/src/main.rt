@@ -1,20 +1,21 @@
 // Reads sections with recorded answers about them from standard input, compares ours with them, and writes how many were compared and
 // how many differed. Controls are records with one number of the answer changed: each must differ.
 //
-// A record is ten little-endian numbers of 32 bits: a tag, two inputs, and the seven numbers of the answer. A record with the tag 0 is a
+// A record is thirteen little-endian numbers of 32 bits: a tag, two inputs, and the ten numbers of the answer. A record with the tag 0 is a
 // section: its length is the first input, its bytes follow, filled up with zeros to a multiple of 4, and the records after it are about it.
 //
-//   1 lookup             address, 0     outcome, refusal, start, end, opcode, probes, 0
-//   2 call at a cursor   page, index    outcome, refusal, start, end, opcode, next page, next index
-//   3 parse              0, 0           1 or 2, refusal, global opcodes' offset and count, pages' offset and count, 0
-//   4 address range      0, 0           1 or 2, refusal, start, end, 0, 0, 0
+//   1 lookup             address, 0     outcome, refusal, start, end, opcode, page, index, origin, probes, 0
+//   2 call at a cursor   page, index    outcome, refusal, start, end, opcode, page, index, origin, next page, next index
+//   3 parse              0, 0           1 or 2, refusal, global opcodes' offset and count, pages' offset and count, and zeros
+//   4 address range      0, 0           1 or 2, refusal, start, end, and zeros
 //   5 well formed        0, 0           1 or 0, and zeros
 //   101 to 105           their controls
 //
-// Outcome is 0 for none or the end, 1 for a function, 2 for a refusal; of a parse and a range 1, or 2 for a refusal. The file `stdin` has 64
-// sections: S, named cases, real ones and damaged ones; 601 questions, of which 402 answers are also the Rust's; and 84 controls. The other
-// answers (probes, cursors, whether it is well formed, what lies outside the Rust's domain) are the second reader's, which is written from
-// docs/FORMAT.md's rules and not from this code (compare/src/model.rs). It was made by
+// Outcome is 0 for none or the end, 1 for a function, 2 for a refusal; of a parse and a range 1, or 2 for a refusal. Page and index of an answer are
+// the function's, origin is 1 for a regular page's entry, 2 for a global opcode, 3 for a local one; all three are 0 without a function. The file
+// `stdin` has 64 sections: S, named cases, real ones and damaged ones; 601 questions, of which 402 answers are also the Rust's, as far as the Rust
+// tells; and 120 controls. The rest (where a function came from, probes, cursors, whether it is well formed, what lies outside the Rust's domain) is
+// the second reader's, which is written from docs/FORMAT.md's rules and not from this code (compare/src/model.rs). It was made by
 //
 //   compare/run record-sections crates/replay_sections/stdin
 use answers::answer;
@@ -65,8 +66,8 @@ fn replay(s: &[u8], asked: u32) -> Tally {
     let mut place = Place { start: 0, n: 0 };
     let mut at: usize = 0;
     while at < s.len() {
-        let record = part(s, at, 40);
-        at += 40;
+        let record = part(s, at, 52);
+        at += 52;
         place = section_at(place, record, at);
         tally = compare(tally, asked, section(s, place), record);
         at += 4 * ((bytes_after(record) as usize + 3) / 4);
@@ -117,5 +118,5 @@ fn compare(tally: Tally, asked: u32, section: &[u8], record: &[u8]) -> Tally {
         u32_or_0(record, 4),
         u32_or_0(record, 8),
     );
-    records::count(tally, records::is_recorded_32(&ours, part(record, 12, 28)))
+    records::count(tally, records::is_recorded_32(&ours, part(record, 12, 40)))
 }

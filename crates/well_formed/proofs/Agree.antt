@@ -15,9 +15,9 @@ use Rattle.search.proofs.Ends.{order, ends-after}
 use Rattle.raw.specs.declared.Lists.{Lists}
 use Rattle.raw.specs.declared.Page.{Page}
 use Rattle.raw.specs.Checked.{good}
-use Rattle.raw.specs.Raw.{grantOf, pagesOf, firstIn, layout}
+use Rattle.raw.specs.Raw.{grantOf, globalsOf, pagesOf, firstIn, layout}
 use Rattle.entries.specs.declared.Function.{Function}
-use Rattle.entries.specs.Entries.{functionsOf, startIn, startOf, endOf, functionOf}
+use Rattle.entries.specs.Entries.{functionsOf, startIn, originIn, startOf, endOf, functionOf}
 use Rattle.entries.specs.Section.{firstOf, pageAt, openedAt, functionAt}
 use Rattle.iterate.specs.Iterate.{iterated}
 use Rattle.iterate.proofs.Members.{Place, function, page, place, member}
@@ -64,15 +64,26 @@ module _ (s : List ℕ) (bytes : Bytes s) (l : Lists) where
     abbrev key : ℕ → ℕ
     key = keyOf (functionsOf (pageAt s l p) pg) (layout (pg .kind))
 
+    abbrev pub with-opcode : ℕ → ℕ → Function
+    with-opcode i opcode =
+        record {
+          «start_address» = start i;
+          «end_address» = stop i;
+          opcode = opcode;
+          page = p;
+          index = i;
+          origin = originIn (pg .kind) (globalsOf s l) (functionsOf (pageAt s l p) pg) i;
+        }
+
     module _ (g : GoodPage s l p pg) where
       end-bound : (i : ℕ) → i < pg .«functions_len» → stop i ≤ firstOf s l (suc p)
       unfolding endOf
       end-bound = end-low _ _ _ pg (firstOf s l (suc p)) (functions-good s l p pg (g .opens) g)
 
       -- function i is answered, in iteration as in lookup: 13 and 14 do not arise
-      pub is-good : (i : ℕ) → i < pg .«functions_len» → (opcode : ℕ) × (functionAt s l p pg i ≡ good (record { «start_address» = start i; «end_address» = stop i; opcode = opcode }))
+      pub is-good : (i : ℕ) → i < pg .«functions_len» → (opcode : ℕ) × (functionAt s l p pg i ≡ good (with-opcode i opcode))
       unfolding functionAt functionOf startOf endOf
-      is-good i h = simp (locals-there s l p pg (g .opens)) (gives _ _ _ pg (firstOf s l (suc p)) (functions-good s l p pg (g .opens) g) (first-bound (suc p)) i h)
+      is-good i h = simp (locals-there s l p pg (g .opens)) (gives _ _ _ pg (firstOf s l (suc p)) (functions-good s l p pg (g .opens) g) (first-bound (suc p)) p i h)
 
       keys-rise : Rising key (pg .«functions_len»)
       unfolding startOf startIn
@@ -125,7 +136,7 @@ module _ (s : List ℕ) (bytes : Bytes s) (l : Lists) where
         at-place : (p i : ℕ) (pg : Page) → suc p < l .«pages_len» → GoodPage s l p pg → i < pg .«functions_len» → functionAt s l p pg i ≡ good f → (probes : ℕ) × (lookupOf s l pc ≡ found f probes)
         at-place p i pg h g t q =
             let o = is-good p pg g i t in
-            let same : f ≡ record { «start_address» = start p pg i; «end_address» = stop p pg i; opcode = o .0 } = (cc (o .1)) in
+            let same : f ≡ with-opcode p pg i (o .0) = (cc (o .1)) in
             let starts : start p pg i ≤ pc = rw same at (c .starts) in
             let ends : pc < stop p pg i = rw same at (c .ends) in
             let low : firstOf s l p ≤ pc = omega (arith, g .begins, order _ 0 _ (g .rises) 0 i (omega arith) t) in

@@ -16,9 +16,10 @@ use Rattle.raw.specs.declared.Page.{Page}
 use Rattle.raw.specs.Checked.{Checked, good, refused, _>>=_, _>>_, check}
 use Rattle.raw.specs.Raw.{pageOf, openOf, localsGranted}
 use Rattle.raw.proofs.Opens.{opened-reads}
+use Rattle.entries.specs.declared.Function.{Function}
 use Rattle.entries.specs.declared.Place.{Place}
-use Rattle.entries.specs.Entries.{functionsOf, localsOf, startIn, endIn, opcodeIn, functionIn, startOf, functionOf}
-use Rattle.entries.specs.Placed.{readOf}
+use Rattle.entries.specs.Entries.{functionsOf, localsOf, startIn, endIn, opcodeIn, originIn, functionIn, startOf, functionOf}
+use Rattle.entries.specs.Placed.{entryThere, readOf}
 use Rattle.entries.proofs.Cases.{end-inside, end-last}
 use Rattle.entries.proofs.Placed.{list-there, placed}
 use Rattle.well_formed.specs.WellFormed.{all, isGood, goodFunction, goodFunctions, goodOpened, given, goodRead}
@@ -59,6 +60,18 @@ is-good (refused k) e = absurd (let z : _≡_ {A = ℕ} 0 1 = cc in omega arith)
 
 -- over the list of functions
 module _ (globals locals functions : List ℕ) (pg : Page) (next : ℕ) where
+  -- function i of page p, with an opcode
+  abbrev pub told : (p i opcode : ℕ) → Function
+  told p i opcode =
+      record {
+        «start_address» = startIn functions pg i;
+        «end_address» = endIn functions pg next i;
+        opcode = opcode;
+        page = p;
+        index = i;
+        origin = originIn (pg .kind) globals functions i;
+      }
+
   module _ (e : goodFunctions globals locals functions pg next ≡ true) where
     pub each-good : (i : ℕ) → i < pg .«functions_len» → (startIn functions pg i < endIn functions pg next i) × ((opcode : ℕ) × (opcodeIn (pg .kind) globals locals true functions i ≡ good opcode))
     unfolding goodFunctions goodFunction
@@ -75,22 +88,20 @@ module _ (globals locals functions : List ℕ) (pg : Page) (next : ℕ) where
     end-low i h = ends-by (pg .«functions_len» - suc i) i (omega arith)
 
     -- so function i is given: 13 and 14 do not arise
-    pub gives : next < 4294967296 → (i : ℕ) → i < pg .«functions_len»
-        → (opcode : ℕ) × (functionIn globals locals true functions pg next i ≡ good (record { «start_address» = startIn functions pg i; «end_address» = endIn functions pg next i; opcode = opcode }))
+    pub gives : next < 4294967296 → (p i : ℕ) → i < pg .«functions_len»
+        → (opcode : ℕ) × (functionIn p globals locals true functions pg next i ≡ good (told p i opcode))
     unfolding functionIn
-    gives small i h =
+    gives small p i h =
         let t = each-good i h in
         let l = end-low i h in
         (t .1 .0, simp (lt-ltb (startIn functions pg i) 4294967296 (omega (arith, t .0)), lt-ltb (endIn functions pg next i) 4294967296 (omega arith), t .1 .1))
 
   -- and the other way
-  given-good : (i : ℕ) → given ltb (functionIn globals locals true functions pg next i) ≡ true → goodFunction globals locals functions pg next i ≡ true
+  given-good : (p i : ℕ) → given ltb (functionIn p globals locals true functions pg next i) ≡ true → goodFunction globals locals functions pg next i ≡ true
   unfolding functionIn goodFunction
-  given-good i = by (ltb (startIn functions pg i) 4294967296) (ltb (endIn functions pg next i) 4294967296) (opcodeIn (pg .kind) globals locals true functions i)
+  given-good p i = by (ltb (startIn functions pg i) 4294967296) (ltb (endIn functions pg next i) 4294967296) (opcodeIn (pg .kind) globals locals true functions i)
     where
-      by : (a b : Bool) (x : Checked ℕ)
-          → given ltb (_>>_ (check 13 a) (_>>_ (check 13 b) (_>>=_ x (λ z. good (record { «start_address» = startIn functions pg i; «end_address» = endIn functions pg next i; opcode = z }))))) ≡ true
-          → (ltb (startIn functions pg i) (endIn functions pg next i) && isGood x) ≡ true
+      by : (a b : Bool) (x : Checked ℕ) → given ltb (_>>_ (check 13 a) (_>>_ (check 13 b) (_>>=_ x (λ z. good (told p i z))))) ≡ true → (ltb (startIn functions pg i) (endIn functions pg next i) && isGood x) ≡ true
       by true true (good z) e = simp e
       by true true (refused k) e = cc
       by true false x e = cc
@@ -113,26 +124,26 @@ module _ (s globals : List ℕ) (q : Place) (first : ℕ) (o : openOf s (q .offs
   reads : (pageOf s (q .offset) first ≡ good (q .page)) × (localsGranted page (q .page) ≡ true)
   reads = opened-reads s (q .offset) first (q .page) o
 
-  read-is : (i : ℕ) → i < count → readOf s globals q i ≡ functionIn globals locals true functions (q .page) (q .next) i
+  read-is : (i : ℕ) → i < count → readOf s globals q i ≡ functionIn (q .index) globals locals true functions (q .page) (q .next) i
   unfolding functionOf
-  read-is i h = placed s (q .offset) (q .next) first (q .page) (reads .0) globals i h ∙ simp (reads .1)
+  read-is i h = placed s (q .index) (q .offset) (q .next) first (q .page) (reads .0) globals i h ∙ simp (reads .1)
 
   good-given : goodFunctions globals locals functions (q .page) (q .next) ≡ true → (test : ℕ → ℕ → Bool) (i : ℕ) → i < count
       → given test (readOf s globals q i) ≡ test (startIn functions (q .page) i) (endIn functions (q .page) (q .next) i)
-  good-given e test i h = ap (given test) (read-is i h ∙ gives globals locals functions (q .page) (q .next) e small i h .1)
+  good-given e test i h = ap (given test) (read-is i h ∙ gives globals locals functions (q .page) (q .next) e small (q .index) i h .1)
 
   same : all count (goodRead s globals q) ≡ goodFunctions globals locals functions (q .page) (q .next)
   unfolding goodFunctions
   same =
       alike _ _
-      (λ e. each-all _ _ (λ i h. given-good globals locals functions (q .page) (q .next) i (ap (given ltb) (sym (read-is i h)) ∙ all-each _ _ e i h)))
+      (λ e. each-all _ _ (λ i h. given-good globals locals functions (q .page) (q .next) (q .index) i (ap (given ltb) (sym (read-is i h)) ∙ all-each _ _ e i h)))
       (λ e. each-all _ _ (λ i h. good-given e ltb i h ∙ lt-ltb _ _ (each-good globals locals functions (q .page) (q .next) e i h .0)))
 
   -- its first function and all
   pub opened : (given (λ x y. eqb x first) (readOf s globals q 0) && all count (goodRead s globals q)) ≡ goodOpened globals page (q .page) first (q .next)
-  unfolding goodOpened startOf readOf
+  unfolding goodOpened startOf readOf entryThere
   opened = by-count (decLt 0 count)
     where
       by-count : Dec (0 < count) → (given (λ x y. eqb x first) (readOf s globals q 0) && all count (goodRead s globals q)) ≡ goodOpened globals page (q .page) first (q .next)
       by-count (yes h) = beside _ _ _ (λ e. good-given (sym same ∙ e) (λ x y. eqb x first) 0 h) ∙ simp (lt-ltb 0 count h, same)
-      by-count (no h) = simp (list-there s (q .offset) (q .next) first (q .page) (reads .0), le-ltb 0 count (omega arith))
+      by-count (no h) = simp (list-there s (q .index) (q .offset) (q .next) first (q .page) (reads .0), le-ltb 0 count (omega arith))

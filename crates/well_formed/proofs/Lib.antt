@@ -9,3 +9,4 @@ pub mod Questions
 pub mod Examples
 pub mod Refusals
 pub mod ByPlace
+pub mod Onward

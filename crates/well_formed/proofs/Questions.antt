@@ -7,7 +7,7 @@ use Rattle.reader.specs.Reader.{numberAt, grantedOf, readOf, wordAt, partOf}
 use Rattle.search.specs.Search.{countOf, keyOf, mid, more, rounds, run, searchOf}
 use Rattle.raw.specs.Checked.{Checked}
 use Rattle.raw.specs.Raw.{grantOf, headerOf, parseOf, globalsOf, pagesOf, firstIn, offsetIn, regularOf, compressedOf, byKind, pageOf, localsGranted, openOf}
-use Rattle.entries.specs.Entries.{functionsOf, localsOf, fourOf, isGlobal, opcodePart, startIn, endIn, resolveOf, opcodeIn, functionIn, startOf, functionOf}
+use Rattle.entries.specs.Entries.{functionsOf, localsOf, fourOf, isGlobal, opcodePart, startIn, endIn, resolveOf, opcodeIn, paletteOf, originIn, functionIn, startOf, functionOf}
 use Rattle.entries.specs.Section.{firstOf, offsetOf, pageAt, openedAt, functionAt}
 use Rattle.iterate.specs.declared.Cursor.{Cursor}
 use Rattle.iterate.specs.declared.Range.{Range}
@@ -38,7 +38,7 @@ row s formed range calls lookups = record { section = s; formed = formed; range 
 
 -- the same questions, with the answers that the definitions give; to unfold it is to unfold all of them
 unfoldable pub answered : Row → Row
-unfolding numberAt grantedOf readOf wordAt partOf countOf keyOf mid more rounds run searchOf grantOf headerOf parseOf globalsOf pagesOf firstIn offsetIn regularOf compressedOf byKind pageOf localsGranted openOf functionsOf localsOf fourOf isGlobal opcodePart startIn endIn resolveOf opcodeIn functionIn startOf functionOf firstOf offsetOf pageAt openedAt functionAt inPage nextFrom nextOf nextOn rangeOf rangeOn fromSpot fromPage atPage fromPages lookupOf lookupOn all goodFunction goodFunctions goodOpened goodPage goodPages wellFormed
+unfolding numberAt grantedOf readOf wordAt partOf countOf keyOf mid more rounds run searchOf grantOf headerOf parseOf globalsOf pagesOf firstIn offsetIn regularOf compressedOf byKind pageOf localsGranted openOf functionsOf localsOf fourOf isGlobal opcodePart startIn endIn resolveOf opcodeIn paletteOf originIn functionIn startOf functionOf firstOf offsetOf pageAt openedAt functionAt inPage nextFrom nextOf nextOn rangeOf rangeOn fromSpot fromPage atPage fromPages lookupOf lookupOn all goodFunction goodFunctions goodOpened goodPage goodPages wellFormed
 answered r =
     row (r .section) (wellFormed (r .section)) (rangeOn (r .section))
     (map (λ (q : Asked Cursor Step). q .question ⇒ nextOn (r .section) (q .question)) (r .calls))

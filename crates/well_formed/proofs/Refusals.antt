@@ -8,6 +8,7 @@ use mathlib.Core.Bool.{true, false}
 use mathlib.Core.List.{List, [], _∷_, _++_, map}
 use lib.ListN.{length, take, drop}
 use Rattle.raw.specs.Checked.{Checked, good, refused}
+use Rattle.entries.specs.declared.Origin.{Origin}
 use Rattle.iterate.specs.declared.Range.{Range}
 use Rattle.iterate.specs.Iterate.{Step, cursor, answer, end}
 use Rattle.lookup.specs.Lookup.{found, nothing, refusal}
@@ -56,7 +57,7 @@ rows =
     ∷ row (take 67 S) false its ((cursor 0 0 ⇒ page 9) ∷ []) ((0x1000 ⇒ refusal 9 2) ∷ [])
     ∷ row (take 75 S) false its ((cursor 0 0 ⇒ page 10) ∷ []) ((0x1000 ⇒ refusal 10 2) ∷ [])
     ∷ row (take 79 S) false its ((cursor 0 0 ⇒ page 11) ∷ (cursor 0 9 ⇒ page 11) ∷ []) ((0x1000 ⇒ found first 4) ∷ (0x1040 ⇒ refusal 11 3) ∷ [])
-    ∷ row (put 68 (0x10 ∷ []) S) false its ((cursor 0 0 ⇒ answer (good (from 0x1010 0x1040 0x01010001)) (cursor 0 1)) ∷ []) ((0x100f ⇒ refusal 12 4) ∷ [])
+    ∷ row (put 68 (0x10 ∷ []) S) false its ((cursor 0 0 ⇒ answer (good (from 0 0 Origin.Global 0x1010 0x1040 0x01010001)) (cursor 0 1)) ∷ []) ((0x100f ⇒ refusal 12 4) ∷ [])
     ∷ row (put 62 (0 ∷ []) S) false its ((cursor 0 0 ⇒ end (cursor 1 0)) ∷ []) ((0x1000 ⇒ refusal 12 2) ∷ [])
     ∷ row (take 79 (put 62 (0 ∷ []) S)) false its ((cursor 0 0 ⇒ page 11) ∷ []) ((0x1000 ⇒ refusal 12 2) ∷ [])
     ∷ row high false (ranging 0xffffffc0 0xffffffff) ((cursor 0 0 ⇒ function 13 0) ∷ (cursor 0 1 ⇒ function 13 1) ∷ []) ((0xffffffc0 ⇒ refusal 13 4) ∷ [])

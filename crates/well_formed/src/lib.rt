@@ -58,6 +58,7 @@ fn is_good_page(s: &[u8], lists: Lists, p: u32) -> bool
         return false;
     };
     let q = Place {
+        index: p,
         offset: e.offset,
         next: e.next,
         page,

@@ -15,6 +15,7 @@ fn line(function: &Function) -> String {
         start_address,
         end_address,
         opcode,
+        ..
     } = function;
     format!("{start_address:08x} {end_address:08x} {opcode:08x}")
 }

@@ -1,22 +1,65 @@
 //! Section S, and sections with one thing wrong.
 
 use crate::inputs::{damage, s, Random};
-use macho_unwind_info::{is_well_formed, Error, Function, LookupAnswer, ReadError, UnwindInfo};
+use macho_unwind_info::{
+    is_well_formed, Error, Function, LookupAnswer, Origin, ReadError, UnwindInfo,
+};
 
-fn first() -> Function {
+/// By its span and opcode, its page and index, and where the opcode stands.
+fn function(
+    (start_address, end_address, opcode): (u32, u32, u32),
+    (page, index): (u32, u32),
+    origin: Origin,
+) -> Function {
     Function {
-        start_address: 0x1000,
-        end_address: 0x1040,
-        opcode: 0x0101_0001,
+        start_address,
+        end_address,
+        opcode,
+        page,
+        index,
+        origin,
     }
 }
 
+fn first() -> Function {
+    function((0x1000, 0x1040, 0x0101_0001), (0, 0), Origin::Global)
+}
+
 fn second() -> Function {
-    Function {
-        start_address: 0x1040,
-        end_address: 0x1100,
-        opcode: 0x0203_0800,
-    }
+    function((0x1040, 0x1100, 0x0203_0800), (0, 1), Origin::Local)
+}
+
+/// Section T of c/test.c: three global opcodes; a regular page, a compressed one, a regular one.
+fn t() -> Vec<u8> {
+    let numbers: [&[u32]; 8] = [
+        &[1, 28, 3, 40, 0, 40, 4],
+        &[0x0101_0001, 0x0203_0800, 0x04ab_cdef],
+        &[0x1000, 88, 0, 0x2000, 112, 0, 0x3000, 140, 0, 0x4000, 0, 0],
+        &[2, 0x2_0008, 0x1000, 0x0102_0001, 0x1800, 0x0103_0002],
+        &[3, 0x3_000c, 0x1_0018],
+        &[0x0200_0000, 0x300, 0x0300_0700, 0x0106_454b],
+        &[2, 0x3_0008],
+        &[0x3000, 0x020a_1905, 0x3100, 9, 0x3700, 0x0500_0000],
+    ];
+    numbers
+        .concat()
+        .iter()
+        .flat_map(|n| n.to_le_bytes())
+        .collect()
+}
+
+fn t_functions() -> [Function; 8] {
+    use Origin::{Global, Local, Regular};
+    [
+        function((0x1000, 0x1800, 0x0102_0001), (0, 0), Regular),
+        function((0x1800, 0x2000, 0x0103_0002), (0, 1), Regular),
+        function((0x2000, 0x2300, 0x04ab_cdef), (1, 0), Global),
+        function((0x2300, 0x2700, 0x0101_0001), (1, 1), Global),
+        function((0x2700, 0x3000, 0x0106_454b), (1, 2), Local),
+        function((0x3000, 0x3100, 0x020a_1905), (2, 0), Regular),
+        function((0x3100, 0x3700, 9), (2, 1), Regular),
+        function((0x3700, 0x4000, 0x0500_0000), (2, 2), Regular),
+    ]
 }
 
 /// S with some of its numbers replaced.
@@ -101,6 +144,41 @@ fn s_is_iterated() {
     assert_eq!(functions.next(), Ok(Some(second())));
     assert_eq!(functions.next(), Ok(None));
     assert_eq!(functions.next(), Ok(None));
+}
+
+#[test]
+fn a_function_says_where_it_came_from() {
+    let t = t();
+    assert!(is_well_formed(&t));
+    let info = UnwindInfo::parse(&t).unwrap();
+    let (mut functions, mut addresses) = (info.functions(), Vec::new());
+    for expected in t_functions() {
+        for address in [expected.start_address, expected.end_address - 1] {
+            assert_eq!(info.lookup(address), Ok(Some(expected.clone())));
+            addresses.push(address);
+        }
+        assert_eq!(functions.next(), Ok(Some(expected)));
+    }
+    assert_eq!(functions.next(), Ok(None));
+
+    let mut answers = [LookupAnswer::default(); 16];
+    let batch = info.lookup_batch(&addresses, &mut answers);
+    let found: Vec<_> = batch.iter().map(LookupAnswer::function).collect();
+    let twice = t_functions().map(|function| [Ok(Some(function.clone())), Ok(Some(function))]);
+    assert_eq!(found, twice.concat());
+}
+
+/// Without the last global opcode index 2 names the first local one, and index 3 none.
+#[test]
+fn the_number_of_global_opcodes_tells_the_lists_apart() {
+    let mut section = t();
+    section[8] = 2;
+    let info = UnwindInfo::parse(&section).unwrap();
+    let local = function((0x2000, 0x2300, 0x0106_454b), (1, 0), Origin::Local);
+    assert_eq!(info.lookup(0x2000), Ok(Some(local)));
+    let global = function((0x2300, 0x2700, 0x0101_0001), (1, 1), Origin::Global);
+    assert_eq!(info.lookup(0x2300), Ok(Some(global)));
+    assert_eq!(info.lookup(0x2700), Err(Error::LocalIndex));
 }
 
 /// As in the original, the iterator lives as long as the bytes, not as long as the view.
@@ -231,7 +309,27 @@ fn long(pages: &[Option<u16>]) -> (Vec<u8>, Vec<Result<u32, u32>>) {
     (section, expected)
 }
 
-/// Whatever the iterator's blocks are, functions and errors come in order.
+/// Empty pages and those that are refused have their numbers too.
+#[test]
+fn places_are_counted_page_by_page() {
+    let (section, _) = long(&[Some(3), Some(0), None, Some(300)]);
+    let mut functions = UnwindInfo::parse(&section).unwrap().functions();
+    let mut places = Vec::new();
+    loop {
+        match functions.next() {
+            Ok(Some(function)) => {
+                assert_eq!(function.origin, Origin::Regular);
+                places.push((function.page, function.index));
+            }
+            Err(error) => assert_eq!(error, Error::InvalidPageKind),
+            Ok(None) => break,
+        }
+    }
+    let expected = (0..3).map(|index| (0, index));
+    let expected = expected.chain((0..300).map(|index| (3, index)));
+    assert_eq!(places, expected.collect::<Vec<_>>());
+}
+
 #[test]
 fn long_sections_are_iterated_whole() {
     for first in (0..=140).chain([191, 192, 193, 1_000]) {

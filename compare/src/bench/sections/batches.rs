@@ -10,6 +10,8 @@ use std::hint::black_box;
 
 /// Addresses in one call.
 const LENGTHS: [usize; 2] = [64, 4096];
+/// Numbers of an answer.
+const ANSWER: usize = 6;
 
 pub fn measure(table: &Table, measured: &Measured) {
     for length in LENGTHS {
@@ -20,7 +22,7 @@ pub fn measure(table: &Table, measured: &Measured) {
 fn measure_by(table: &Table, measured: &Measured, length: usize) {
     let section = &measured.bytes[..];
     let parts: Vec<&[u32]> = measured.addresses.chunks(length.max(PART)).collect();
-    let answers = RefCell::new(vec![0; 4 * length]);
+    let answers = RefCell::new(vec![0; ANSWER * length]);
     let by_batch = |addresses: &[u32]| {
         let answers = &mut answers.borrow_mut()[..];
         for batch in addresses.chunks(length) {

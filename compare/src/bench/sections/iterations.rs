@@ -73,7 +73,7 @@ fn by_cursor(section: &[u8], lists: Lists) -> usize {
     loop {
         let next = ours::next_in(section, lists, cursor);
         black_box(&next);
-        if next.outcome != FOUND.into() {
+        if next.outcome != FOUND {
             return functions;
         }
         functions += 1;

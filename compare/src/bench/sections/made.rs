@@ -61,7 +61,7 @@ pub fn listed(section: &[u8]) -> Vec<(u32, u32, u32)> {
     let (mut functions, mut cursor) = (Vec::new(), (0, 0));
     loop {
         let next = ours::next(section, cursor);
-        if next.outcome != FOUND.into() {
+        if next.outcome != FOUND {
             return functions;
         }
         functions.push((next.start, next.end, next.opcode));

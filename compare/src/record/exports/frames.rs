@@ -58,7 +58,7 @@ fn lookups<const N: usize>(
     case: &Case<N>,
 ) -> Result<()> {
     for trap in traps::all() {
-        for (question, [outcome, refusal, _, _, _, probes, _]) in trap.answers {
+        for (question, [outcome, refusal, .., probes, _]) in trap.answers {
             let (Question::Lookup(address), 0 | 2) = (question, outcome) else {
                 continue;
             };

@@ -1,19 +1,23 @@
-//! Lists lent to write: 40 numbers that are 7 before the call, of which the first ones are lent.
+//! Lists lent to write: 60 numbers that are 7 before the call, of which the first ones are lent.
 
 use super::calls::case;
 use crate::ffi::section::{Cursor, FillAnswer, LookupAnswer};
 use crate::model::{self, batched, Refusal, Section};
 
+/// Numbers of a list, and of a batch's answer.
+const LIST: usize = 60;
+pub const ANSWER: usize = 6;
+
 /// What a call left.
 pub struct Left {
-    pub list: [u32; 40],
+    pub list: [u32; LIST],
     pub cases: Vec<u32>,
 }
 
 impl Left {
     fn new() -> Self {
         Left {
-            list: [7; 40],
+            list: [7; LIST],
             cases: Vec::new(),
         }
     }
@@ -35,7 +39,7 @@ pub fn fill(section: &Result<Section, Refusal>, cursor: Cursor, room: usize) -> 
 /// How many were answered comes first.
 pub fn batch(answers: &[LookupAnswer], room: usize) -> (usize, Left) {
     let mut left = Left::new();
-    let places = left.list[..room].chunks_exact_mut(4);
+    let places = left.list[..room].chunks_exact_mut(ANSWER);
     let answered = places.len().min(answers.len());
     for (place, answer) in places.zip(answers) {
         place.copy_from_slice(&batched(*answer));

@@ -70,12 +70,14 @@ impl<'a> Given<'a> {
 
     fn lookup(&self, out: &mut Files, address: u32) {
         let found = model::lookup(&self.model, address);
-        let function = [found.start, found.end, found.opcode].map(u64::from);
-        let rest = [found.probes, found.outcome.into(), found.refusal.into()].map(u64::from);
+        let function = [found.start, found.end, found.opcode];
+        let place = [found.page, found.index, found.origin.into()];
+        let rest = [found.probes, found.outcome, found.refusal].map(u32::from);
+        let numbers = function.into_iter().chain(place).chain(rest);
         let (call, asked) = (&calls::LOOKUP_IN, self.asked(&[address]));
         let case = case(found.outcome, found.refusal);
         out.about(self.section);
-        out.record(call, &asked, &[case], function.into_iter().chain(rest));
+        out.record(call, &asked, &[case], numbers.map(u64::from));
     }
 
     fn next(&self, out: &mut Files, cursor: Cursor) -> Cursor {
@@ -84,6 +86,9 @@ impl<'a> Given<'a> {
         let rest = [
             next.page,
             next.index,
+            next.function_page,
+            next.function_index,
+            next.origin.into(),
             next.outcome.into(),
             next.refusal.into(),
         ];
@@ -213,7 +218,7 @@ fn empty(out: &mut Files) {
         given.fill(out, (3, 4), 3);
     }
     fill(out, &[], (3, 4), 3);
-    batch(out, &[], &[0, u32::MAX], 9);
+    batch(out, &[], &[0, u32::MAX], 13);
 }
 
 /// Page after page: five functions, 6, three functions, then one before 14 and one after it.
@@ -267,22 +272,22 @@ const CURSORS: [Cursor; 6] = [
 /// Addresses and numbers of room: enough, more, and too few.
 const BATCHES: [(usize, usize); 14] = [
     (0, 0),
-    (0, 8),
+    (0, 12),
     (1, 0),
-    (1, 3),
-    (1, 4),
-    (4, 15),
-    (4, 16),
-    (4, 40),
-    (5, 16),
-    (5, 20),
-    (9, 7),
-    (9, 35),
-    (9, 36),
-    (9, 40),
+    (1, 5),
+    (1, 6),
+    (4, 23),
+    (4, 24),
+    (4, 60),
+    (5, 24),
+    (5, 30),
+    (9, 11),
+    (9, 53),
+    (9, 54),
+    (9, 60),
 ];
 /// Numbers of room of blocks that come in a row.
-const BLOCKS: [usize; 2] = [3, 40];
+const BLOCKS: [usize; 2] = [3, 60];
 const BLOCKS_IN: [usize; 2] = [8, 39];
 /// Those of blocks that go nowhere.
 const NO_ROOM: [usize; 3] = [0, 1, 2];
@@ -375,6 +380,7 @@ fn batches(out: &mut Files, trap: &Trap) {
         !out.has_met(&calls::LOOKUP_BATCH, case)
     };
     if answers.iter().any(is_new) {
-        batch(out, &trap.section, &addresses, 4 * addresses.len());
+        let room = lent::ANSWER * addresses.len();
+        batch(out, &trap.section, &addresses, room);
     }
 }

@@ -16,6 +16,8 @@ const DRAWN: usize = 3;
 const SHORT: u32 = 40;
 const LONG: u32 = 1_000;
 const LONG_ONES: u32 = 32;
+/// Numbers of an answer.
+const ANSWER: usize = 6;
 /// Numbers after the room, which must stay too.
 const AFTER: usize = 8;
 
@@ -53,16 +55,16 @@ impl Batches {
     /// All addresses of a section with room for them, a long list also in another order; then
     /// drawn ones with any room.
     pub fn ask(&mut self, opened: &Opened, all: &[LookedUp], random: &mut Random) {
-        self.batch(opened, all, 4 * all.len());
+        self.batch(opened, all, ANSWER * all.len());
         if all.len() > LONG as usize {
             let mut shuffled = all.to_vec();
             random.shuffle(&mut shuffled);
-            self.batch(opened, &shuffled, 4 * all.len());
+            self.batch(opened, &shuffled, ANSWER * all.len());
         }
         for _ in 0..DRAWN {
             let length = length(random);
             let drawn: Vec<_> = (0..length).map(|_| *pick(random, all)).collect();
-            self.batch(opened, &drawn, room(random, 4 * drawn.len()));
+            self.batch(opened, &drawn, room(random, ANSWER * drawn.len()));
         }
     }
 
@@ -77,14 +79,14 @@ impl Batches {
         let mut list = before.clone();
         let addresses: Vec<u32> = asked.iter().map(|one| one.address).collect();
         let count = lookup_batch(opened.section, &addresses, &mut list[..room]);
-        let answered = length.min(room / 4);
-        let (answers, rest) = list.split_at(4 * answered);
+        let answered = length.min(room / ANSWER);
+        let (answers, rest) = list.split_at(ANSWER * answered);
         let changed = (0..)
             .zip(rest)
-            .find(|&(i, n)| *n != before[4 * answered + i]);
+            .find(|&(i, n)| *n != before[ANSWER * answered + i]);
         self.written
             .check(input, (count, changed), (answered, None));
-        for (one, numbers) in asked.iter().zip(answers.chunks_exact(4)) {
+        for (one, numbers) in asked.iter().zip(answers.chunks_exact(ANSWER)) {
             let input = || format!("{:#x} in {}", one.address, input());
             self.single.check(input, numbers, &bytes(one.ours));
             self.model.check(input, numbers, &batched(one.model));
@@ -118,7 +120,7 @@ fn room(random: &mut Random, numbers: usize) -> usize {
     }
 }
 
-/// The 16 bytes of an answer as four numbers.
-fn bytes(answer: LookupAnswer) -> [u32; 4] {
+/// The 24 bytes of an answer as six numbers.
+fn bytes(answer: LookupAnswer) -> [u32; ANSWER] {
     unsafe { std::mem::transmute(answer) }
 }

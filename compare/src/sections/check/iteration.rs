@@ -21,8 +21,8 @@ impl Checks {
         let (mut cursor, mut functions, mut ends) = ((0, 0), 0, 0);
         while ends < 2 {
             let answer = self.step(opened, &mut rust, cursor);
-            functions += usize::from(answer.outcome == FOUND.into());
-            ends += usize::from(answer.outcome == NONE.into() || opened.model.is_err());
+            functions += usize::from(answer.outcome == FOUND);
+            ends += usize::from(answer.outcome == NONE || opened.model.is_err());
             cursor = (answer.page, answer.index);
         }
         functions

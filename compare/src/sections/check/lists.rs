@@ -58,11 +58,13 @@ impl Checks {
     }
 
     fn lookup_with(&mut self, given: &Given, address: u32) {
-        self.lists.check(
-            || given.asked(format_args!("lookup {address:#x}")),
-            ours::lookup_in(given.section, given.lists, address),
-            model::lookup(&given.model, address),
-        );
+        let input = || given.asked(format_args!("lookup {address:#x}"));
+        let answer = ours::lookup_in(given.section, given.lists, address);
+        let model = model::lookup(&given.model, address);
+        self.lists.check(input, answer, model);
+        self.place(input, &given.model, answer, |cursor| {
+            ours::next_in(given.section, given.lists, cursor)
+        });
     }
 
     fn steps_with(&mut self, given: &Given, cursor: Cursor) {

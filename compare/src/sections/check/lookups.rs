@@ -32,10 +32,16 @@ impl Checks {
         let answer = ours::lookup(opened.section, address);
         let model = model::lookup(&opened.model, address);
         self.lookup.model.check(input, answer, model);
+        self.place(input, &opened.model, answer, |cursor| {
+            ours::next(opened.section, cursor)
+        });
         if opened.listed.is_ok() {
             let again = ours::lookup_in(opened.section, opened.lists, address);
             let model = model::lookup(&opened.listed, address);
             self.lookup.model.check(input, again, model);
+            self.place(input, &opened.listed, again, |cursor| {
+                ours::next_in(opened.section, opened.lists, cursor)
+            });
         }
         let known = (keys.rise(&opened.listed, address), model.refusal.into());
         for (build, view) in opened.views() {

@@ -83,14 +83,15 @@ fn refused_by<const N: usize>(name: &'static str, refusal: u32, edits: [Edit; N]
 /// A read of 0 bytes at the section's end is granted. Index 0 is then the local opcode's, and
 /// index 1 past the list.
 fn no_globals() -> Trap {
+    let local = ((0x1000, 0x1040, 0x0203_0800), (0, 0), IN_LOCALS);
     trap(
         "no global opcodes, at the end",
         s_with(globals(80, 0)),
         [
             parsed((80, 0), (32, 2)),
-            found(0x1000, (0x1000, 0x1040, 0x0203_0800), 4),
+            found(0x1000, local, 4),
             refused(0x1040, 14, 3),
-            step((0, 0), (0x1000, 0x1040, 0x0203_0800), (0, 1)),
+            step((0, 0), local, (0, 1)),
             step_refused((0, 1), 14, (0, 2)),
             end((0, 2), 1),
             well_formed(false),
@@ -118,12 +119,13 @@ fn no_pages() -> Trap {
 fn most_globals() -> Trap {
     let mut section = s_with([u32_at(at::GLOBALS_LEN, 12)]);
     section.truncate(76);
+    let global = ((0x1040, 0x1100, 0x1000), (0, 1), IN_GLOBALS);
     trap(
         "global opcodes up to the end, no local one",
         section,
         [
             parsed((28, 12), (32, 2)),
-            found(0x1040, (0x1040, 0x1100, 0x1000), 3),
+            found(0x1040, global, 3),
             step_refused((0, 0), 11, (1, 0)),
             well_formed(false),
         ],

@@ -110,7 +110,7 @@ fn empty_page_first() -> Trap {
         ],
         end: Some(0x1200),
     };
-    let function = (start, 0x1200, opcode);
+    let function = ((start, 0x1200, opcode), (1, 0), IN_ENTRY);
     trap(
         "an empty page before another",
         plan.write(&mut Layout::Plain).bytes,
@@ -168,14 +168,16 @@ fn beyond_4096_bytes() -> Trap {
         }],
         end: Some(0x3bd0),
     };
-    let last = (0x3bc0, 0x3bd0, 0x0200_02bc);
+    let first = ((0x1000, 0x1010, 0x0200_0000), (0, 0), IN_ENTRY);
+    let middle = ((0x25e0, 0x25f0, 0x0200_015e), (0, 350), IN_ENTRY);
+    let last = ((0x3bc0, 0x3bd0, 0x0200_02bc), (0, 700), IN_ENTRY);
     trap(
         "a page of 701 functions",
         plan.write(&mut Layout::Plain).bytes,
         [
-            found(0x1000, (0x1000, 0x1010, 0x0200_0000), 12),
+            found(0x1000, first, 12),
             // The search goes on where it meets the key.
-            found(0x25e0, (0x25e0, 0x25f0, 0x0200_015e), 12),
+            found(0x25e0, middle, 12),
             found(0x3bcf, last, 11),
             none(0x3bd0, 1),
             step((0, 700), last, (0, 701)),

@@ -42,6 +42,10 @@ fn above_the_numbers() -> Trap {
 /// One less, so that it starts at 2^32 - 1, which is also the closing page's address.
 fn up_to_the_numbers() -> Trap {
     let (first, last) = (0xffff_ffbf, 0xffff_ffff);
+    let functions = [
+        ((first, last, 0x0101_0001), (0, 0), IN_GLOBALS),
+        ((last, last, 0x0203_0800), (0, 1), IN_LOCALS),
+    ];
     trap(
         "a function at 2^32 - 1",
         s_with([
@@ -49,10 +53,10 @@ fn up_to_the_numbers() -> Trap {
             u32_at(at::END_ADDRESS, last),
         ]),
         [
-            found(first, (first, last, 0x0101_0001), 4),
+            found(first, functions[0], 4),
             none(last, 1),
-            step((0, 0), (first, last, 0x0101_0001), (0, 1)),
-            step((0, 1), (last, last, 0x0203_0800), (0, 2)),
+            step((0, 0), functions[0], (0, 1)),
+            step((0, 1), functions[1], (0, 2)),
             well_formed(false),
         ],
     )
@@ -120,7 +124,7 @@ fn eleven_before_fourteen() -> Trap {
 }
 
 fn no_function_found() -> Trap {
-    let first = (0x1010, 0x1040, 0x0101_0001);
+    let first = ((0x1010, 0x1040, 0x0101_0001), (0, 0), IN_GLOBALS);
     trap(
         "the first function starts after its page",
         s_with([u32_at(at::FUNCTION_0, 0x0000_0010)]),
@@ -137,6 +141,7 @@ fn no_function_found() -> Trap {
 
 /// The end is the next page's first address, wherever that is.
 fn end_below_start() -> Trap {
+    let second = ((0x1040, 0x1020, 0x0203_0800), (0, 1), IN_LOCALS);
     trap(
         "a function that starts past the next page",
         s_with([u32_at(at::END_ADDRESS, 0x1020)]),
@@ -144,7 +149,7 @@ fn end_below_start() -> Trap {
             found(0x101f, FIRST, 4),
             none(0x1020, 1),
             none(0x1040, 1),
-            step((0, 1), (0x1040, 0x1020, 0x0203_0800), (0, 2)),
+            step((0, 1), second, (0, 2)),
             well_formed(false),
         ],
     )
@@ -152,13 +157,15 @@ fn end_below_start() -> Trap {
 
 /// Of equal keys the search finds the last.
 fn equal_keys() -> Trap {
+    let first = ((0x1000, 0x1000, 0x0101_0001), (0, 0), IN_GLOBALS);
+    let second = ((0x1000, 0x1100, 0x0203_0800), (0, 1), IN_LOCALS);
     trap(
         "two functions at one address",
         s_with([u32_at(at::FUNCTION_1, 0x0100_0000)]),
         [
-            found(0x1000, (0x1000, 0x1100, 0x0203_0800), 3),
-            step((0, 0), (0x1000, 0x1000, 0x0101_0001), (0, 1)),
-            step((0, 1), (0x1000, 0x1100, 0x0203_0800), (0, 2)),
+            found(0x1000, second, 3),
+            step((0, 0), first, (0, 1)),
+            step((0, 1), second, (0, 2)),
             well_formed(false),
         ],
     )

@@ -1,4 +1,4 @@
--- `replay_sections::replay` is safe and ends: each record takes 40 bytes at least.
+-- `replay_sections::replay` is safe and ends: each record takes 52 bytes at least.
 -- Assumes nothing.
 use borrow.Author.Needs.{needs}
 use Prim.Native.Nat.{_-_}

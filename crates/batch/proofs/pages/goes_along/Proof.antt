@@ -1,10 +1,10 @@
--- `batch::four::goes_along` meets its contract: a page without functions doesn't.
+-- `batch::pages::goes_along` meets its contract: a page without functions doesn't.
 -- Assumes nothing.
 use borrow.Author.Needs.{needs}
 use borrow.Author.Tests.{ltb-true}
 use native.Mathlib.Omega.{arith}
-use Rattle.batch.proofs.four.goes_along.Statement.{statement}
-use Rattle.batch.proofs.four.goes_along.Tie as tie
+use Rattle.batch.proofs.pages.goes_along.Statement.{statement}
+use Rattle.batch.proofs.pages.goes_along.Tie as tie
 
 returns : tie.Need-returns
 returns c = λ false-is-true. absurd (omega (arith, ltb-true 0 0 false-is-true))

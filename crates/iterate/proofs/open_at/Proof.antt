@@ -1,10 +1,10 @@
--- `entries::open_at` meets its contract: the page that the entry names.
+-- `iterate::open_at` meets its contract: the page that the entry names.
 -- Assumes nothing.
 use borrow.Author.Needs.{needs}
 use Rattle.entries.proofs.Places.{opens-there}
 use Rattle.reader.proofs.Laws.{bytes-of}
-use Rattle.entries.proofs.open_at.Statement.{statement}
-use Rattle.entries.proofs.open_at.Tie as tie
+use Rattle.iterate.proofs.open_at.Statement.{statement}
+use Rattle.iterate.proofs.open_at.Tie as tie
 
 returns : tie.Need-returns
 returns c = opens-there _ _ _ _ (bytes-of (c .before .before .pages .ensures)) _ (c .before .page-entry .ensures) _ (c .open-page .ensures)

@@ -1,9 +1,9 @@
--- `batch::four::page_at` meets its contract: the page that the entry names, where there is one.
+-- `batch::pages::page_at` meets its contract: the page that the entry names, where there is one.
 -- Assumes nothing.
 use borrow.Author.Needs.{needs}
 use Rattle.batch.proofs.Paging.{none-there, page-there}
-use Rattle.batch.proofs.four.page_at.Statement.{statement}
-use Rattle.batch.proofs.four.page_at.Tie as tie
+use Rattle.batch.proofs.pages.page_at.Statement.{statement}
+use Rattle.batch.proofs.pages.page_at.Tie as tie
 
 returns : tie.Need-returns
 returns c = λ h. none-there (c .no-page .ensures) h
