@@ -13,6 +13,7 @@ use Rattle.entries.specs.declared.Function.{Function}
 use Rattle.iterate.specs.Iterate.{cursor, answer, end}
 use Rattle.lookup.specs.Lookup.{found, nothing, refusal}
 use Rattle.fill.specs.Fill as filling
+use Rattle.batch.specs.Batch.{numbersOf, listed}
 use Rattle.permutation.specs.Permutation as permuted
 use Rattle.opcodes.specs.Registers as registers
 use Rattle.opcodes.specs.WordsX86 as x86
@@ -56,6 +57,7 @@ pub data Flat : Type 0 where
   lookup : LookupAnswer → Flat
   next : NextAnswer → Flat
   fill : FillOutcome → Flat
+  batched : List ℕ → Flat
   anchor : (number : ℕ) → Flat
   rule-x86-64 : «RuleX86_64Answer» → Flat
   rule-arm64 : «RuleArm64Answer» → Flat
@@ -141,6 +143,10 @@ rows =
     ∷ (next (nextAnswer (answer (good (function Origin.Global)) (cursor 0x14 0x15))), called 2)
     ∷ (next (nextAnswer (answer (good (function Origin.Local)) (cursor 0x14 0x15))), called 3)
     ∷ (next (nextAnswer (answer (refused 14) (cursor 0x14 0x15))), not-called 2 14)
+    -- an answer of a batch: origin, probes, outcome and refusal, a byte each, from the lowest on
+    ∷ (batched (listed (numbersOf (nothing 0x14))), batched (0 ∷ 0 ∷ 0 ∷ 0 ∷ 0 ∷ 0x00001400 ∷ []))
+    ∷ (batched (listed (numbersOf (found (function Origin.Local) 0x14))), batched (0x11 ∷ 0x12 ∷ 0x13 ∷ 0x16 ∷ 0x17 ∷ 0x00011403 ∷ []))
+    ∷ (batched (listed (numbersOf (refusal 12 0x14))), batched (0 ∷ 0 ∷ 0 ∷ 0 ∷ 0 ∷ 0x0c021400 ∷ []))
     ∷ (fill (fillAnswer (filled filling.ended)), fill (filledOutcome (record { functions = 0x11; page = 0x12; index = 0x13; outcome = 0; refusal = 0 }) (0x14 ∷ [])))
     ∷ (fill (fillAnswer (filled filling.full)), fill (filledOutcome (record { functions = 0x11; page = 0x12; index = 0x13; outcome = 1; refusal = 0 }) (0x14 ∷ [])))
     ∷ (fill (fillAnswer (filled (filling.refusal 13))), fill (filledOutcome (record { functions = 0x11; page = 0x12; index = 0x13; outcome = 2; refusal = 13 }) (0x14 ∷ [])))

@@ -1,4 +1,4 @@
--- Refused answers, flat: the number is the refusal's.
+-- Flat answers by the number of a refusal, or of an origin.
 -- Assumes nothing.
 use Prim.Native.Nat.{ℕ, _<_}
 use mathlib.Core.Path.{_≡_, ap, sym, _∙_}

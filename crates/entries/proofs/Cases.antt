@@ -14,7 +14,7 @@ use Rattle.raw.specs.declared.Kind.{Kind}
 use Rattle.raw.specs.declared.Page.{Page}
 use Rattle.raw.specs.Checked.{Checked, good, refused}
 use Rattle.entries.specs.declared.Origin.{Origin}
-use Rattle.entries.specs.Entries.{fourOf, fourIn, isGlobal, opcodePart, opcodePartIn, startIn, endIn, resolveOf, opcodeIn, paletteOf, originIn, from}
+use Rattle.entries.specs.Entries.{fourOf, fourIn, isGlobal, opcodePart, opcodePartIn, startIn, endIn, resolveOf, opcodeIn, paletteOf, originIn, sourced}
 
 -- a test of an index
 module _ (globals : List ℕ) (index : ℕ) where
@@ -102,13 +102,13 @@ module _ (functions : List ℕ) (pg : Page) (next i : ℕ) where
 -- the opcode by the page's kind
 module _ (globals locals : List ℕ) (there : Bool) (functions : List ℕ) (i : ℕ) where
   abbrev opcode : Kind → Checked (ℕ × Origin)
-  opcode k = from (originIn k globals functions i) (opcodeIn k globals locals there functions i)
+  opcode k = sourced (originIn k globals functions i) (opcodeIn k globals locals there functions i)
 
   pub regular-opcode : (k : Kind) (x : ℕ) → k ≡ Kind.Regular → x ≡ wordAt 4 functions (8 * i + 4) → good (x, Origin.Regular) ≡ opcode k
   unfolding opcodeIn originIn
   regular-opcode k x p e = simp (e, p)
 
   pub compressed-opcode : (k : Kind) (x : ℕ) (w : Checked (ℕ × Origin)) → k ≡ Kind.Compressed → x ≡ wordAt 4 functions (4 * i)
-      → w ≡ from (paletteOf globals (x / 16777216)) (resolveOf globals locals there (x / 16777216)) → w ≡ opcode k
+      → w ≡ sourced (paletteOf globals (x / 16777216)) (resolveOf globals locals there (x / 16777216)) → w ≡ opcode k
   unfolding opcodeIn originIn
   compressed-opcode k x w p e q = q ∙ simp (sym e, p)

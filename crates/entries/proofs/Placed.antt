@@ -25,7 +25,7 @@ use Rattle.entries.specs.declared.Function.{Function}
 use Rattle.entries.specs.declared.Entry.{Entry}
 use Rattle.entries.specs.declared.Place.{Place}
 use Rattle.entries.specs.declared.Resolved.{Resolved}
-use Rattle.entries.specs.Entries.{fourOf, fourIn, isGlobal, opcodePart, opcodePartIn, startIn, endIn, resolveOf, opcodeIn, paletteOf, originIn, from, functionIn, functionsOf, localsOf, functionOf, opcodeTold}
+use Rattle.entries.specs.Entries.{fourOf, fourIn, isGlobal, opcodePart, opcodePartIn, startIn, endIn, resolveOf, opcodeIn, paletteOf, originIn, sourced, functionIn, functionsOf, localsOf, functionOf, opcodeTold}
 use Rattle.entries.specs.Section.{firstOf, offsetOf, pageAt, functionAt, placeAt}
 use Rattle.entries.specs.Placed.{firstAt, sizeAt, listThere, entryThere, listAt, listIn, localsThere, localsAt, noEntry, readOf as readPlaced, entryIn, opcodeFor, spanning}
 use Rattle.entries.proofs.Cases.{four-part, four-none, part-global, part-local, no-locals, no-opcode, an-opcode, end-inside, end-last}
@@ -291,7 +291,7 @@ module _ (s globals : List ℕ) (q : Place) (i : ℕ) where
       is-read j k w e = ap (spanning q i (here .start) (after .start)) e ∙ by (opcodeIn (q .page .kind) globals (localsAt s q) (localsThere s q) (listAt s q) i) refl
         where
           by : (v : Checked ℕ) → opcodeIn (q .page .kind) globals (localsAt s q) (localsThere s q) (listAt s q) i ≡ v
-              → spanning q i (here .start) (after .start) (from (originIn (q .page .kind) globals (listAt s q) i) v) ≡ readPlaced s globals q i
+              → spanning q i (here .start) (after .start) (sourced (originIn (q .page .kind) globals (listAt s q) i) v) ≡ readPlaced s globals q i
           by (good x) f = simp (t, lt-ltb i (q .page .«functions_len») h, starts, ends, lt-ltb (here .start) 4294967296 j, lt-ltb (after .start) 4294967296 k, f)
           by (refused x) f = simp (t, lt-ltb i (q .page .«functions_len») h, starts, ends, lt-ltb (here .start) 4294967296 j, lt-ltb (after .start) 4294967296 k, f)
 

@@ -57,9 +57,13 @@ resolveOf globals locals there index = do
   check 14 (grantedOf 4 (opcodePart globals locals index) 0)
   good (wordAt 4 (opcodePart globals locals index) 0)
 
+-- 2.5: the index that a compressed entry has above its address
+abbrev pub indexIn : List ℕ → ℕ → ℕ
+indexIn functions i = wordAt 4 functions (4 * i) / 16777216
+
 unfoldable pub opcodeIn : Kind → List ℕ → List ℕ → Bool → List ℕ → ℕ → Checked ℕ
 opcodeIn Kind.Regular globals locals there functions i = good (wordAt 4 functions (8 * i + 4))
-opcodeIn Kind.Compressed globals locals there functions i = resolveOf globals locals there (wordAt 4 functions (4 * i) / 16777216)
+opcodeIn Kind.Compressed globals locals there functions i = resolveOf globals locals there (indexIn functions i)
 
 -- 2.9: where function i's opcode comes from; and the number of that, where 0 is left for no function
 unfoldable pub paletteOf : List ℕ → ℕ → Origin
@@ -67,7 +71,7 @@ paletteOf globals index = cond (isGlobal globals index) Origin.Global Origin.Loc
 
 unfoldable pub originIn : Kind → List ℕ → List ℕ → ℕ → Origin
 originIn Kind.Regular globals functions i = Origin.Regular
-originIn Kind.Compressed globals functions i = paletteOf globals (wordAt 4 functions (4 * i) / 16777216)
+originIn Kind.Compressed globals functions i = paletteOf globals (indexIn functions i)
 
 abbrev pub originNumber : Origin → ℕ
 originNumber Origin.Regular = 1
@@ -75,20 +79,15 @@ originNumber Origin.Global = 2
 originNumber Origin.Local = 3
 
 -- function i of page p
+abbrev pub functionFrom : (p i : ℕ) → Origin → (start end opcode : ℕ) → Function
+functionFrom p i origin start end opcode = record { «start_address» = start; «end_address» = end; opcode = opcode; page = p; index = i; origin = origin }
+
 unfoldable pub functionIn : ℕ → List ℕ → List ℕ → Bool → List ℕ → Page → ℕ → ℕ → Checked Function
 functionIn p globals locals there functions pg next i = do
   check 13 (ltb (startIn functions pg i) 4294967296)
   check 13 (ltb (endIn functions pg next i) 4294967296)
   opcode ← opcodeIn (pg .kind) globals locals there functions i
-  good (
-      record {
-        «start_address» = startIn functions pg i;
-        «end_address» = endIn functions pg next i;
-        opcode = opcode;
-        page = p;
-        index = i;
-        origin = originIn (pg .kind) globals functions i;
-      })
+  good (functionFrom p i (originIn (pg .kind) globals functions i) (startIn functions pg i) (endIn functions pg next i) opcode)
 
 -- over the page
 module _ (page : List ℕ) (pg : Page) where
@@ -110,9 +109,9 @@ functionTold (Answer.Function f) = good f
 functionTold (Answer.Refused e) = refused (numberOf e)
 
 -- for the helpers: an opcode with where it comes from
-abbrev pub from : Origin → Checked ℕ → Checked (ℕ × Origin)
-from o (good x) = good (x, o)
-from o (refused k) = refused k
+abbrev pub sourced : Origin → Checked ℕ → Checked (ℕ × Origin)
+sourced o (good x) = good (x, o)
+sourced o (refused k) = refused k
 
 abbrev pub opcodeTold : Resolved → Checked (ℕ × Origin)
 opcodeTold (Resolved.Opcode x o) = good (x, o)

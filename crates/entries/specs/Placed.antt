@@ -15,7 +15,7 @@ use Rattle.entries.specs.declared.Origin.{Origin}
 use Rattle.entries.specs.declared.Function.{Function}
 use Rattle.entries.specs.declared.Entry.{Entry}
 use Rattle.entries.specs.declared.Place.{Place}
-use Rattle.entries.specs.Entries.{startIn, opcodeIn, originIn, functionIn, from}
+use Rattle.entries.specs.Entries.{startIn, opcodeIn, originIn, functionFrom, functionIn, sourced}
 
 -- its functions and its local opcodes: where they start, whether they lie in the section, and their bytes
 abbrev pub firstAt : Place → ℕ
@@ -65,9 +65,9 @@ entryIn list pg next i =
 
 -- the opcode of function i, with where it comes from
 abbrev pub opcodeFor : List ℕ → List ℕ → Place → ℕ → Checked (ℕ × Origin)
-opcodeFor s globals q i = from (originIn (q .page .kind) globals (listAt s q) i) (opcodeIn (q .page .kind) globals (localsAt s q) (localsThere s q) (listAt s q) i)
+opcodeFor s globals q i = sourced (originIn (q .page .kind) globals (listAt s q) i) (opcodeIn (q .page .kind) globals (localsAt s q) (localsThere s q) (listAt s q) i)
 
 -- function i from a start to an end
 abbrev pub spanning : Place → ℕ → (start end : ℕ) → Checked (ℕ × Origin) → Checked Function
-spanning q i start end (good x) = good (record { «start_address» = start; «end_address» = end; opcode = x .0; page = q .index; index = i; origin = x .1 })
+spanning q i start end (good x) = good (functionFrom (q .index) i (x .1) start end (x .0))
 spanning q i start end (refused k) = refused k

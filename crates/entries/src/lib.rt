@@ -8,7 +8,7 @@ ghost use Rattle.reader.specs.Reader.{wordAt, sliceTold, partIn};
 ghost use Rattle.search.specs.Search.{sizeOf};
 ghost use Rattle.raw.specs.declared.Error.{Error};
 ghost use Rattle.raw.specs.Raw.{layout};
-ghost use Rattle.entries.specs.Entries.{isGlobal, paletteOf, opcodePartIn, resolveOf, originNumber, functionTold, from, opcodeTold};
+ghost use Rattle.entries.specs.Entries.{isGlobal, paletteOf, opcodePartIn, resolveOf, originNumber, functionTold, sourced, opcodeTold};
 ghost use Rattle.entries.specs.Placed.{firstAt, sizeAt, listThere, entryThere, listAt, listIn, localsThere, localsAt, noEntry, readOf, entryIn, opcodeFor, spanning};
 use raw::Error;
 use raw::Kind;
@@ -213,7 +213,7 @@ fn unnamed(there: bool) -> Error
 
 // The opcode that the index names.
 fn named<'a>(s: &'a [u8], globals: &'a [u8], q: Place, index: u32) -> Resolved
-    ensures { λ r. ⌜ opcodeTold r ≡ from (paletteOf (now (globals .entry)) index) (resolveOf (now (globals .entry)) (localsAt (now (s .entry)) q) (localsThere (now (s .entry)) q) index) ⌝ }
+    ensures { λ r. ⌜ opcodeTold r ≡ sourced (paletteOf (now (globals .entry)) index) (resolveOf (now (globals .entry)) (localsAt (now (s .entry)) q) (localsThere (now (s .entry)) q) index) ⌝ }
 {
     let there = has_locals(s, q);
     let bytes = opcode_part(globals, locals_at(s, q, there), index);

@@ -17,7 +17,7 @@ use Rattle.raw.specs.declared.Page.{Page}
 use Rattle.raw.specs.Checked.{good}
 use Rattle.raw.specs.Raw.{grantOf, globalsOf, pagesOf, firstIn, layout}
 use Rattle.entries.specs.declared.Function.{Function}
-use Rattle.entries.specs.Entries.{functionsOf, startIn, originIn, startOf, endOf, functionOf}
+use Rattle.entries.specs.Entries.{functionsOf, startIn, originIn, functionFrom, startOf, endOf, functionOf}
 use Rattle.entries.specs.Section.{firstOf, pageAt, openedAt, functionAt}
 use Rattle.iterate.specs.Iterate.{iterated}
 use Rattle.iterate.proofs.Members.{Place, function, page, place, member}
@@ -65,15 +65,7 @@ module _ (s : List ℕ) (bytes : Bytes s) (l : Lists) where
     key = keyOf (functionsOf (pageAt s l p) pg) (layout (pg .kind))
 
     abbrev pub with-opcode : ℕ → ℕ → Function
-    with-opcode i opcode =
-        record {
-          «start_address» = start i;
-          «end_address» = stop i;
-          opcode = opcode;
-          page = p;
-          index = i;
-          origin = originIn (pg .kind) (globalsOf s l) (functionsOf (pageAt s l p) pg) i;
-        }
+    with-opcode i opcode = functionFrom p i (originIn (pg .kind) (globalsOf s l) (functionsOf (pageAt s l p) pg) i) (start i) (stop i) opcode
 
     module _ (g : GoodPage s l p pg) where
       end-bound : (i : ℕ) → i < pg .«functions_len» → stop i ≤ firstOf s l (suc p)

@@ -18,7 +18,7 @@ use Rattle.raw.specs.Raw.{pageOf, openOf, localsGranted}
 use Rattle.raw.proofs.Opens.{opened-reads}
 use Rattle.entries.specs.declared.Function.{Function}
 use Rattle.entries.specs.declared.Place.{Place}
-use Rattle.entries.specs.Entries.{functionsOf, localsOf, startIn, endIn, opcodeIn, originIn, functionIn, startOf, functionOf}
+use Rattle.entries.specs.Entries.{functionsOf, localsOf, startIn, endIn, opcodeIn, originIn, functionFrom, functionIn, startOf, functionOf}
 use Rattle.entries.specs.Placed.{entryThere, readOf}
 use Rattle.entries.proofs.Cases.{end-inside, end-last}
 use Rattle.entries.proofs.Placed.{list-there, placed}
@@ -62,15 +62,7 @@ is-good (refused k) e = absurd (let z : _≡_ {A = ℕ} 0 1 = cc in omega arith)
 module _ (globals locals functions : List ℕ) (pg : Page) (next : ℕ) where
   -- function i of page p, with an opcode
   abbrev pub told : (p i opcode : ℕ) → Function
-  told p i opcode =
-      record {
-        «start_address» = startIn functions pg i;
-        «end_address» = endIn functions pg next i;
-        opcode = opcode;
-        page = p;
-        index = i;
-        origin = originIn (pg .kind) globals functions i;
-      }
+  told p i opcode = functionFrom p i (originIn (pg .kind) globals functions i) (startIn functions pg i) (endIn functions pg next i) opcode
 
   module _ (e : goodFunctions globals locals functions pg next ≡ true) where
     pub each-good : (i : ℕ) → i < pg .«functions_len» → (startIn functions pg i < endIn functions pg next i) × ((opcode : ℕ) × (opcodeIn (pg .kind) globals locals true functions i ≡ good opcode))
