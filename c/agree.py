@@ -166,7 +166,7 @@ class Header:
     def enumerator(self):
         name = self.tokens.word()
         self.tokens.expect("=")
-        return name, int(self.tokens.word())
+        return name, int(self.tokens.word(), 0)
 
     def fields(self):
         t = self.tokens

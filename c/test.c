@@ -52,8 +52,8 @@ PLACE(unwind_x86_64_answer, registers, 16);
 PLACE(unwind_arm64_answer, registers, 16);
 PLACE(read_answer, value, 8);
 
-/* The numbers of the refusals (docs/FORMAT.md, 11) and of the origins. The calls below hold the
- * library to these names. */
+/* The numbers of the refusals (docs/FORMAT.md, 11), of the origins and of the pairs. The calls
+ * below hold the library to these names. */
 
 #define NUMBER(name, number) ASSERT(name, BRASSPURSE_##name == (number))
 
@@ -89,6 +89,16 @@ NUMBER(ORIGIN_REGULAR_ENTRY, 1);
 NUMBER(ORIGIN_GLOBAL_OPCODES, 2);
 NUMBER(ORIGIN_LOCAL_OPCODES, 3);
 
+NUMBER(PAIR_X19_X20, 1);
+NUMBER(PAIR_X21_X22, 2);
+NUMBER(PAIR_X23_X24, 4);
+NUMBER(PAIR_X25_X26, 8);
+NUMBER(PAIR_X27_X28, 16);
+NUMBER(PAIR_D8_D9, 256);
+NUMBER(PAIR_D10_D11, 512);
+NUMBER(PAIR_D12_D13, 1024);
+NUMBER(PAIR_D14_D15, 2048);
+
 static unsigned checks, failed;
 
 static void same(int line, const char *what, uint64_t got, uint64_t expected)
@@ -116,7 +126,29 @@ static void same(int line, const char *what, uint64_t got, uint64_t expected)
 #define FIELDS 0x0106454b
 #define PUSHES 0x020a1905
 #define INDIRECT 0x032ab905
-#define PAIRS 0x040001ff
+#define PAIRS 0x04000f1f
+
+/* Each pair's own word, its bit in saved_pairs, and its first register; the second follows it. */
+static const struct {
+    uint32_t word;
+    uint16_t bit;
+    uint8_t first;
+} pairs_alone[9] = {
+    {0x04000001, BRASSPURSE_PAIR_X19_X20, BRASSPURSE_X19},
+    {0x04000002, BRASSPURSE_PAIR_X21_X22, BRASSPURSE_X21},
+    {0x04000004, BRASSPURSE_PAIR_X23_X24, BRASSPURSE_X23},
+    {0x04000008, BRASSPURSE_PAIR_X25_X26, BRASSPURSE_X25},
+    {0x04000010, BRASSPURSE_PAIR_X27_X28, BRASSPURSE_X27},
+    {0x04000100, BRASSPURSE_PAIR_D8_D9, BRASSPURSE_D8},
+    {0x04000200, BRASSPURSE_PAIR_D10_D11, BRASSPURSE_D10},
+    {0x04000400, BRASSPURSE_PAIR_D12_D13, BRASSPURSE_D12},
+    {0x04000800, BRASSPURSE_PAIR_D14_D15, BRASSPURSE_D14},
+};
+
+/* Frame-based words of arm64 without a pair. Bits 5 to 7, and 12 and above, mark none. */
+static const uint32_t without_pairs[6] = {
+    0x04000000, 0x04000020, 0x04000040, 0x04000080, 0x040000e0, 0xf4fff0e0,
+};
 
 /* What an answer says of a function, and where it has none. */
 struct function {
@@ -314,11 +346,6 @@ static void word_arm64(int line, uint32_t word, uint8_t answer, uint32_t value, 
 static void words(void)
 {
     const uint8_t dwarf_numbers[6] = {3, 12, 13, 14, 15, 6};
-    const uint16_t pairs[9] = {
-        BRASSPURSE_PAIR_X19_X20, BRASSPURSE_PAIR_X21_X22, BRASSPURSE_PAIR_X23_X24,
-        BRASSPURSE_PAIR_X25_X26, BRASSPURSE_PAIR_X27_X28, BRASSPURSE_PAIR_D8_D9,
-        BRASSPURSE_PAIR_D10_D11, BRASSPURSE_PAIR_D12_D13, BRASSPURSE_PAIR_D14_D15,
-    };
     struct brasspurse_register_answer r;
 
     IS(brasspurse_opcode_kind(0xf6abcdef), 6);
@@ -348,10 +375,14 @@ static void words(void)
     WORD_ARM64(0x02abc000, BRASSPURSE_ARM64_FRAMELESS, 43968, 0, 0);
     WORD_ARM64(0x03abcdef, BRASSPURSE_ARM64_DWARF, 0xabcdef, 0, 0);
     for (int i = 0; i < 9; i++)
-        WORD_ARM64(0x04000000 + (1u << i), BRASSPURSE_ARM64_FRAME_BASED, 0, 1, pairs[i]);
-    WORD_ARM64(0x04000135, BRASSPURSE_ARM64_FRAME_BASED, 0, 5,
+        WORD_ARM64(pairs_alone[i].word, BRASSPURSE_ARM64_FRAME_BASED, 0, 1, pairs_alone[i].bit);
+    for (int i = 0; i < 6; i++)
+        WORD_ARM64(without_pairs[i], BRASSPURSE_ARM64_FRAME_BASED, 0, 0, 0);
+    WORD_ARM64(0x04000915, BRASSPURSE_ARM64_FRAME_BASED, 0, 5,
                BRASSPURSE_PAIR_X19_X20 | BRASSPURSE_PAIR_X23_X24 | BRASSPURSE_PAIR_X27_X28 |
                    BRASSPURSE_PAIR_D8_D9 | BRASSPURSE_PAIR_D14_D15);
+    WORD_ARM64(PAIRS, BRASSPURSE_ARM64_FRAME_BASED, 0, 9, 0xf1f);
+    WORD_ARM64(0x04ffffff, BRASSPURSE_ARM64_FRAME_BASED, 0, 9, 0xf1f);
     WORD_ARM64(0x07abcdef, BRASSPURSE_ARM64_UNRECOGNIZED_KIND, 7, 0, 0);
 }
 
@@ -731,8 +762,8 @@ static void is_arm64(int line, struct brasspurse_registers_arm64 r,
         same(line, "saved", r.saved[i], expected.saved[i]);
 }
 
-/* The frames of FIELDS, PUSHES and PAIRS, lowest slot first. V(i) belongs to saved register i, and
- * V(30) is the return address, which in PAIRS is x30's, V(11). */
+/* The frames of FIELDS, PUSHES, PAIRS and of 0x04000101, lowest slot first. V(i) belongs to saved
+ * register i, and V(30) is the return address, which on arm64 is x30's, V(11). */
 static const uint8_t fields_frame[64] = {
     U64(V(2)), U64(V(0)), U64(V(4)), U64(V(1)), U64(V(3)), U64(V(40)), U64(V(5)), U64(V(30)),
 };
@@ -744,8 +775,11 @@ static const uint8_t pairs_frame[160] = {
     U64(V(9)),  U64(V(8)),  U64(V(7)),  U64(V(6)),  U64(V(5)),  U64(V(4)),  U64(V(3)),  U64(V(2)),
     U64(V(1)),  U64(V(0)),  U64(V(10)), U64(V(11)),
 };
+static const uint8_t d8_d9_frame[48] = {
+    U64(V(13)), U64(V(12)), U64(V(1)), U64(V(0)), U64(V(10)), U64(V(11)),
+};
 
-/* What these frames give back. */
+/* What the first three give back. */
 static struct brasspurse_registers_x86_64 x86_64_caller(uint64_t cfa)
 {
     struct brasspurse_registers_x86_64 r = {V(30), cfa, {V(0), V(1), V(2), V(3), V(4), V(5)}};
@@ -809,13 +843,16 @@ static void rules(void)
         [BRASSPURSE_D11] = 128, [BRASSPURSE_D12] = 136, [BRASSPURSE_D13] = 144,
         [BRASSPURSE_D14] = 152, [BRASSPURSE_D15] = 160,
     };
-    const uint16_t d14_for_d8[20] = {
+    const uint16_t d8_d9[20] = {
         [BRASSPURSE_X30] = 8,  [BRASSPURSE_X29] = 16, [BRASSPURSE_X19] = 24,
-        [BRASSPURSE_X20] = 32, [BRASSPURSE_D14] = 40, [BRASSPURSE_D15] = 48,
+        [BRASSPURSE_X20] = 32, [BRASSPURSE_D8] = 40,  [BRASSPURSE_D9] = 48,
     };
-    const uint16_t no_d[20] = {
-        [BRASSPURSE_X30] = 8, [BRASSPURSE_X29] = 16, [BRASSPURSE_X19] = 24, [BRASSPURSE_X20] = 32,
+    const uint16_t d10_to_d15[20] = {
+        [BRASSPURSE_X30] = 8,  [BRASSPURSE_X29] = 16, [BRASSPURSE_X19] = 24, [BRASSPURSE_X20] = 32,
+        [BRASSPURSE_D10] = 40, [BRASSPURSE_D11] = 48, [BRASSPURSE_D12] = 56, [BRASSPURSE_D13] = 64,
+        [BRASSPURSE_D14] = 72, [BRASSPURSE_D15] = 80,
     };
+    const uint16_t no_pair[20] = {[BRASSPURSE_X30] = 8, [BRASSPURSE_X29] = 16};
     const uint16_t nothing[20] = {0};
 
     RULE_X86_64(FIELDS, 0, 0, 16, BRASSPURSE_CFA_FRAME_POINTER, fields);
@@ -833,10 +870,19 @@ static void rules(void)
     RULE_ARM64(0x03abcdef, BRASSPURSE_REFUSED_DWARF, 0xabcdef, 0, 0, nothing);
     RULE_ARM64(0x07abcdef, BRASSPURSE_REFUSED_UNRECOGNIZED_KIND, 7, 0, 0, nothing);
 
-    /* As compilers mark x19/x20 with d8/d9, then with d10 to d15: not what the function saved. And
-     * a frameless word with all pairs. The top of the header says so. */
-    RULE_ARM64(0x04000101, 0, 0, 16, BRASSPURSE_CFA_FRAME_POINTER, d14_for_d8);
-    RULE_ARM64(0x04000e01, 0, 0, 16, BRASSPURSE_CFA_FRAME_POINTER, no_d);
+    /* As compilers mark x19/x20 with d8/d9, then with d10 to d15. */
+    RULE_ARM64(0x04000101, 0, 0, 16, BRASSPURSE_CFA_FRAME_POINTER, d8_d9);
+    RULE_ARM64(0x04000e01, 0, 0, 16, BRASSPURSE_CFA_FRAME_POINTER, d10_to_d15);
+    for (int i = 0; i < 9; i++) {
+        uint16_t alone[20] = {[BRASSPURSE_X30] = 8, [BRASSPURSE_X29] = 16};
+
+        alone[pairs_alone[i].first] = 24;
+        alone[pairs_alone[i].first + 1] = 32;
+        RULE_ARM64(pairs_alone[i].word, 0, 0, 16, BRASSPURSE_CFA_FRAME_POINTER, alone);
+    }
+    for (int i = 0; i < 6; i++)
+        RULE_ARM64(without_pairs[i], 0, 0, 16, BRASSPURSE_CFA_FRAME_POINTER, no_pair);
+    /* A frameless word with all pairs: none is read, as the top of the header says. */
     RULE_ARM64(0x02004f1f, 0, 0, 64, BRASSPURSE_CFA_STACK_POINTER, nothing);
 }
 
@@ -861,7 +907,7 @@ static void steps(void)
     const struct brasspurse_registers_x86_64 x = x86_64(0x7000, 0x7030);
     const struct brasspurse_registers_x86_64 up = x86_64(0x7000, UINT64_MAX - 15);
     const struct brasspurse_registers_arm64 a = arm64(0x8000, 0x8090);
-    struct brasspurse_registers_arm64 leaf = a;
+    struct brasspurse_registers_arm64 leaf = a, based = a;
 
     IS_STEP_X86_64(brasspurse_step_x86_64(FIELDS, x, 0x7000, fields_frame, 64), 0, 0,
                    x86_64_caller(0x7040));
@@ -885,6 +931,30 @@ static void steps(void)
 
     IS_STEP_ARM64(brasspurse_step_arm64(PAIRS, a, 0x8000, pairs_frame, 160), 0, 0,
                   arm64_caller(0x80a0));
+    /* x29 and x30 alone; a pair below them; x19, x20, d8 and d9 below them. The window is no larger
+     * than that. */
+    based.pc = V(11);
+    based.sp = 0x80a0;
+    based.saved[BRASSPURSE_X29] = V(10);
+    based.saved[BRASSPURSE_X30] = V(11);
+    for (int i = 0; i < 6; i++)
+        IS_STEP_ARM64(brasspurse_step_arm64(without_pairs[i], a, 0x8090, d8_d9_frame + 32, 16), 0,
+                      0, based);
+    for (int i = 0; i < 9; i++) {
+        struct brasspurse_registers_arm64 alone = based;
+
+        alone.saved[pairs_alone[i].first] = V(0);
+        alone.saved[pairs_alone[i].first + 1] = V(1);
+        IS_STEP_ARM64(brasspurse_step_arm64(pairs_alone[i].word, a, 0x8080, d8_d9_frame + 16, 32),
+                      0, 0, alone);
+    }
+    based.saved[BRASSPURSE_X19] = V(0);
+    based.saved[BRASSPURSE_X20] = V(1);
+    based.saved[BRASSPURSE_D8] = V(12);
+    based.saved[BRASSPURSE_D9] = V(13);
+    IS_STEP_ARM64(brasspurse_step_arm64(0x04000101, a, 0x8070, d8_d9_frame, 48), 0, 0, based);
+    IS_STEP_ARM64(brasspurse_step_arm64(0x04000101, a, 0x8071, d8_d9_frame + 1, 47),
+                  BRASSPURSE_REFUSED_OUTSIDE_WINDOW, 0, a);
     leaf.pc = a.saved[BRASSPURSE_X30];
     leaf.sp = 0x8000 + 43968;
     IS_STEP_ARM64(brasspurse_step_arm64(0x02abc000, a, 0x8000, pairs_frame, 0), 0, 0, leaf);

@@ -14,15 +14,10 @@
  *   registers and of the return address, the register that CFA (the caller's stack pointer after
  *   the return) is counted from, and the preserved registers without a slot.
  *
- * Known to come out otherwise in real code, and not refused. Compilers write two kinds of arm64
- * words of which this version reads less than they mean. pc, sp, x29 and x30 come out right; some
- * other registers do not:
- * - Frame-based words (kind 4) with a bit of 8 to 11 set. There compilers mark the saved pairs
- *   d8/d9 to d14/d15; this version reads them from bits 5 to 8, as the Rust crate
- *   macho-unwind-info does. The saved d registers come out as they are in the body, and where bit 8
- *   is set, d14 and d15 come out as the caller's d8 and d9. x19 to x28 come out right.
- * - Frameless words (kind 2) with a bit of 0 to 4 or 8 to 11 set. There too compilers mark saved
- *   pairs; this version reads none. The saved registers come out as they are in the body.
+ * Known to come out otherwise in real code, and not refused. Compilers write one kind of arm64
+ * words of which this version reads less than they mean: frameless words (kind 2) with a bit of 0
+ * to 4 or 8 to 11 set. There they mark saved pairs; this version reads none. pc, sp, x29 and x30
+ * come out right; the saved registers come out as they are in the body.
  * Refused, though real code has them: frames left to DWARF (21), and x86_64 frames whose size is in
  * the function's code (25).
  *
@@ -55,9 +50,9 @@ extern "C" {
 #endif
 
 /* This header's version. */
-#define BRASSPURSE_VERSION "0.4.0"
+#define BRASSPURSE_VERSION "0.5.0"
 #define BRASSPURSE_VERSION_MAJOR 0
-#define BRASSPURSE_VERSION_MINOR 4
+#define BRASSPURSE_VERSION_MINOR 5
 #define BRASSPURSE_VERSION_PATCH 0
 
 /* Refusals. 16 to 19 and 29 are not in use. */
@@ -400,18 +395,18 @@ enum brasspurse_word_arm64 {               /* value has: */
     BRASSPURSE_ARM64_UNRECOGNIZED_KIND = 4 /* the kind */
 };
 
-/* Bits of saved_pairs. They are bits 0 to 8 of the word: where compilers write the d pairs is said
- * at the top. */
+/* Bits of saved_pairs, which are the word's own, and the masks of Apple's header. Bits 5 to 7 of the
+ * word name no pair. */
 enum brasspurse_pair_arm64 {
-    BRASSPURSE_PAIR_X19_X20 = 1,
-    BRASSPURSE_PAIR_X21_X22 = 2,
-    BRASSPURSE_PAIR_X23_X24 = 4,
-    BRASSPURSE_PAIR_X25_X26 = 8,
-    BRASSPURSE_PAIR_X27_X28 = 16,
-    BRASSPURSE_PAIR_D8_D9 = 32,
-    BRASSPURSE_PAIR_D10_D11 = 64,
-    BRASSPURSE_PAIR_D12_D13 = 128,
-    BRASSPURSE_PAIR_D14_D15 = 256
+    BRASSPURSE_PAIR_X19_X20 = 0x001,
+    BRASSPURSE_PAIR_X21_X22 = 0x002,
+    BRASSPURSE_PAIR_X23_X24 = 0x004,
+    BRASSPURSE_PAIR_X25_X26 = 0x008,
+    BRASSPURSE_PAIR_X27_X28 = 0x010,
+    BRASSPURSE_PAIR_D8_D9 = 0x100,
+    BRASSPURSE_PAIR_D10_D11 = 0x200,
+    BRASSPURSE_PAIR_D12_D13 = 0x400,
+    BRASSPURSE_PAIR_D14_D15 = 0x800
 };
 
 struct brasspurse_opcode_arm64_answer {
@@ -485,7 +480,7 @@ enum brasspurse_cfa_register {
 };
 
 /* What a word says of its frame. The return address lies 8 below CFA on x86_64; on arm64 it is
- * x30, from its slot if it has one. Where arm64 words of real functions mean more: see the top. */
+ * x30, from its slot if it has one. Where arm64 frameless words mean more: see the top. */
 struct brasspurse_rule_x86_64_answer {
     uint32_t refusal;      /* 0, or 20 to 25 */
     uint32_t value;        /* for 21 DWARF's 24 bits, for 22 the kind */
@@ -532,8 +527,8 @@ struct brasspurse_step_arm64_answer {
 /* Undoes the frame of a function with this opcode word, stopped with these registers after its
  * prologue and before its epilogue: elsewhere in it the answer may be wrong, and is not refused.
  * `window` is bytes of its stack, the first at address `base`; the slots to be read must lie in it.
- * The registers' own program counter is not looked at. On arm64 d registers, and after frameless
- * words also x19 to x28, may come out wrong, unrefused: see the top. */
+ * The registers' own program counter is not looked at. After arm64 frameless words x19 to x28 and
+ * d8 to d15 may come out wrong, unrefused: see the top. */
 struct brasspurse_step_x86_64_answer
 brasspurse_step_x86_64(uint32_t opcode, struct brasspurse_registers_x86_64 registers,
                        uint64_t base, const uint8_t *window, size_t window_len);

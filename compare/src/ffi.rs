@@ -45,8 +45,8 @@ pub struct OpcodeX86_64 {
 }
 
 /// `answer`: 0 null, 1 frameless, 2 DWARF, 3 frame-based, 4 unrecognised kind. `value`: the size,
-/// the 24 bits or the kind; 0 where the case has none. Nine pairs, x19/x20 lowest, x27/x28, then
-/// d8/d9 to d14/d15.
+/// the 24 bits or the kind; 0 where the case has none. The pairs x19/x20 to x27/x28 are bits 0 to 4,
+/// d8/d9 to d14/d15 bits 8 to 11.
 #[repr(C)]
 #[derive(Clone, Copy, Debug, Default, PartialEq, Eq)]
 pub struct OpcodeArm64 {

@@ -39,10 +39,11 @@ fn random_words() -> impl Iterator<Item = u32> {
     (0..WORDS).map(move |_| random.next())
 }
 
-/// Random words of one mode.
+/// Words of one mode: the low 12 bits alone, each value of them, and random ones.
 fn words(constants: &Constants, mask: &str, mode: &str, check: impl FnMut(u32)) {
     let (mask, mode) = (constants.get(mask), constants.get(mode));
-    random_words()
+    (0..1 << 12)
+        .chain(random_words())
         .map(|word| word & !mask | mode)
         .for_each(check);
 }

@@ -26,3 +26,18 @@ pub static RELEASES: [Release; 2] = [release_0_3_0::RELEASE, release_0_5_0::RELE
 
 /// The release whose answers are recorded.
 pub static NEWEST: &Release = &RELEASES[1];
+
+/// An arm64 word without what the Rust reads otherwise: bits 5 to 11 of a frame-based one. The Rust
+/// has d pairs at bits 5 to 8; they stand at bits 8 to 11 (docs/FORMAT.md, 7.4).
+pub fn read_alike_arm64(word: u32) -> u32 {
+    if word >> 24 & 15 == 4 {
+        word & !0xfe0
+    } else {
+        word
+    }
+}
+
+/// Whether the Rust is asked about an arm64 word, and must say the same.
+pub fn is_asked_arm64(word: u32) -> bool {
+    read_alike_arm64(word) == word
+}

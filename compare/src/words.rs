@@ -1,7 +1,7 @@
 //! Opcode words: kind, specific bits, and all that x86_64 and arm64 read from them.
 
 use crate::ffi::{self, OpcodeX86_64};
-use crate::oracle::{Release, RELEASES};
+use crate::oracle::{is_asked_arm64, Release, RELEASES};
 use crate::random::Random;
 use crate::tally::{Report, Tally};
 
@@ -14,6 +14,9 @@ pub fn compare(report: &mut Report) {
         report.add(group("bitfield", release, check_bitfield));
         report.add(group("x86_64 words", release, check_x86_64));
         report.add(group("arm64 words", release, check_arm64));
+        for group in read_otherwise(release) {
+            report.add_listed(group);
+        }
     }
 }
 
@@ -51,6 +54,28 @@ fn check_x86_64(tally: &mut Tally, release: &Release, word: u32) {
 }
 
 fn check_arm64(tally: &mut Tally, release: &Release, word: u32) {
+    if is_asked_arm64(word) {
+        parse_arm64(tally, release, word);
+    }
+}
+
+/// The other words of arm64, which are frame-based: those without a d pair, and those with one.
+/// They rise, so the first that differs is the smallest.
+fn read_otherwise(release: &Release) -> [Tally; 2] {
+    [
+        ("bits 5 to 7", 0x0400_0000..0x0400_0100),
+        ("bits 8 to 11", 0x0400_0100..0x0400_1000),
+    ]
+    .map(|(bits, words)| {
+        let mut tally = Tally::new(format!("arm64 words, {bits}, {}", release.name));
+        words
+            .filter(|&word| !is_asked_arm64(word))
+            .for_each(|word| parse_arm64(&mut tally, release, word));
+        tally
+    })
+}
+
+fn parse_arm64(tally: &mut Tally, release: &Release, word: u32) {
     tally.check(
         || input(word),
         ffi::parse_arm64(word),

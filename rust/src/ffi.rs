@@ -111,7 +111,8 @@ pub struct OpcodeX86_64Answer {
 }
 
 /// `answer`: 0 null, 1 frameless, 2 DWARF, 3 frame-based, 4 unrecognised kind. `value`: the size,
-/// the 24 bits or the kind. `saved_pairs`: x19/x20 lowest, .. x27/x28, then d8/d9 .. d14/d15.
+/// the 24 bits or the kind. `saved_pairs`: at the word's own bits, x19/x20 .. x27/x28 at 0 to 4,
+/// d8/d9 .. d14/d15 at 8 to 11.
 #[repr(C)]
 pub struct OpcodeArm64Answer {
     pub value: u32,

@@ -40,17 +40,13 @@
 //!
 //! # Where real code differs
 //!
-//! Two sorts of arm64 words are read as the original reads them, and do not describe the prologues
-//! of real code. They are not refused. In all real frames that were tried:
+//! One sort of arm64 words is read as the original reads it, and does not describe the prologues of
+//! real code: **frameless words with pair bits**. Compilers set these bits, 0 to 4 and 8 to 11,
+//! where a function without a frame pointer stores pairs below CFA; here they are ignored, and the
+//! word is not refused. In all real frames that were tried `pc`, `sp`, x29 and x30 come out right,
+//! and the registers that the function stored stay as they are in its body.
 //!
-//! - **Frame-based words of functions that save d registers.** Apple's header and compilers have the
-//!   pairs d8/d9 to d14/d15 at bits 8 to 11; here they are read from bits 5 to 8. Of the caller's
-//!   registers d8 to d15 may come out wrong. `pc`, `sp` and x19 to x30 come out right.
-//! - **Frameless words with pair bits.** Compilers set these bits, 0 to 4 and 8 to 11, where a
-//!   function without a frame pointer stores pairs below CFA; here they are ignored. `pc` and `sp`
-//!   come out right. The registers that the function stored stay as they are in its body.
-//!
-//! Of x86_64 words nothing of the sort was found.
+//! Of frame-based words of arm64, and of x86_64 words, nothing of the sort was found.
 
 #![forbid(unsafe_code)]
 
@@ -142,9 +138,8 @@ impl RuleX86_64 {
 }
 
 impl RuleArm64 {
-    /// The rule of a word; refuses with 20 to 22. Real functions that save d registers, and frameless
-    /// ones that save any, lay their frames out otherwise: see
-    /// [the module](self#where-real-code-differs).
+    /// The rule of a word; refuses with 20 to 22. Real frameless functions that save registers lay
+    /// their frames out otherwise: see [the module](self#where-real-code-differs).
     pub fn parse(opcode: u32) -> Result<Self, Refusal> {
         let (cfa_register, cfa_distance, below) = ruled(ffi::rule_arm64(opcode))?;
         Ok(RuleArm64 {
@@ -184,8 +179,8 @@ pub fn step_x86_64(
 /// Undoes one frame of arm64 by its word; refuses with 20 to 22, 26 and 27. `window` is the stack
 /// from the address `base` on. Only the slots that the word names have to lie in it.
 ///
-/// In frames of real functions that save d registers, and of frameless ones that save any, some of
-/// the caller's registers come out wrong and nothing is refused; `pc` and `sp` are right. See
+/// In frames of real frameless functions that save registers, some of the caller's registers come
+/// out wrong and nothing is refused; `pc` and `sp` are right. See
 /// [the module](self#where-real-code-differs).
 pub fn step_arm64(
     opcode: u32,

@@ -36,12 +36,12 @@
 //!   (docs/FORMAT.md, 9), in a function that is stopped after its prologue and before its epilogue,
 //!   and whose body kept to its limits. Any other word is refused.
 //!
-//! It is not promised that a compiler's word describes the prologue that the compiler wrote. Of two
-//! sorts of arm64 words it is known that it doesn't, as this crate and the original read them; they
-//! are not refused, and registers of the caller come out wrong. They are frame-based words of
-//! functions that save d registers, and frameless words of functions that save anything:
-//! [`frames`](frames#where-real-code-differs) says what comes out. Real code also has words that are
-//! refused: with 21 where the frame is in `__eh_frame`, with 25 where its size stands in the code.
+//! It is not promised that a compiler's word describes the prologue that the compiler wrote. Of one
+//! sort of arm64 words it is known that it doesn't, as this crate and the original read them:
+//! frameless words of functions that save anything. They are not refused, and registers of the
+//! caller come out wrong: [`frames`](frames#where-real-code-differs) says which. Real code also
+//! has words that are refused: with 21 where the frame is in `__eh_frame`, with 25 where its size
+//! stands in the code.
 //!
 //! # Building
 //!
@@ -100,6 +100,12 @@
 //!   original's may find another entry.
 //! - After an error [`FunctionIter::next`] goes on behind what was refused. The original does so
 //!   too, where it doesn't panic.
+//! - Of an arm64 frame-based word [`OpcodeArm64::parse`](opcodes::OpcodeArm64::parse) reads the
+//!   pairs d8/d9 to d14/d15 from bits 8 to 11, where compilers write them, and not bits 5 to 7. The
+//!   original reads these pairs from bits 5 to 8. Both count the pairs that they read. 0x04000020
+//!   lists d8/d9 in the original and nothing here; 0x04000100 lists d14/d15 in the original and
+//!   d8/d9 here. Where none of bits 5 to 11 is set, they agree; where one is, they agree only if
+//!   bits 5, 8 and 11 are alike, bits 6 and 9, and bits 7 and 10.
 //!
 //! On all other input `parse`, `address_range`, `lookup`, `functions` and the words' `parse` gave
 //! what the original gives, wherever they were compared (docs/DIFFERENCES.md).

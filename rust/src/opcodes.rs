@@ -1,7 +1,8 @@
 //! Opcode words: what they say, machine by machine.
 //!
-//! As in the original, but for the text that `Display` prints. 32-bit words (`OpcodeX86`) are left
-//! out. What a word means for a frame is in [`frames`](crate::frames).
+//! As in the original, but for the d pairs of [`OpcodeArm64`] and the text that `Display` prints.
+//! 32-bit words (`OpcodeX86`) are left out. What a word means for a frame is in
+//! [`frames`](crate::frames).
 
 #![forbid(unsafe_code)]
 

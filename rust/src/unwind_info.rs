@@ -168,8 +168,8 @@ impl<'a> UnwindInfo<'a> {
 
     /// The same on arm64, where 23 to 25 don't arise.
     ///
-    /// In frames of real functions that save d registers, and of frameless ones that save any, some
-    /// of the caller's registers come out wrong and nothing is refused; `pc` and `sp` are right. See
+    /// In frames of real frameless functions that save registers, some of the caller's registers
+    /// come out wrong and nothing is refused; `pc` and `sp` are right. See
     /// [`frames`](crate::frames#where-real-code-differs).
     pub fn unwind_arm64(
         &self,

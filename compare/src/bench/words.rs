@@ -3,6 +3,7 @@
 use super::inputs;
 use super::table::Table;
 use crate::ffi;
+use crate::oracle::read_alike_arm64;
 use crate::oracle::release_0_5_0::{macho, permutation};
 use macho::opcodes::{OpcodeArm64, OpcodeX86_64};
 
@@ -30,7 +31,9 @@ fn x86_64(table: &Table, which: &str, words: &[u32]) {
     table.row(&name, words, ffi::parse_x86_64, || OpcodeX86_64::parse);
 }
 
+/// On words that both sides read alike.
 fn arm64(table: &Table, which: &str, words: &[u32]) {
     let name = format!("arm64 words, {which}");
-    table.row(&name, words, ffi::parse_arm64, || OpcodeArm64::parse);
+    let words: Vec<u32> = words.iter().copied().map(read_alike_arm64).collect();
+    table.row(&name, &words, ffi::parse_arm64, || OpcodeArm64::parse);
 }

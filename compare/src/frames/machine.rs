@@ -19,7 +19,7 @@ pub struct Machine<const N: usize> {
     pub unwind: fn(&[u8], u32, Registers<N>, Window) -> Unwound<N>,
     /// What the model reads from a word.
     pub frame: fn(u32) -> Result<Frame<N>, Refused>,
-    /// The same with the Rust's decoding; none where that loses what decides.
+    /// The same with the Rust's decoding; none where that loses or misreads what decides.
     pub rust: fn(&Release, u32) -> Option<Result<Frame<N>, Refused>>,
     /// Any sound word's prologue; the number bounds its size.
     pub prologue: fn(&mut Random, u32) -> Box<dyn Prologue<N>>,

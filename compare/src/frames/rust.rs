@@ -1,8 +1,8 @@
 //! Frames of the Rust's own decoding: the model lays them out, and reads no bit of the word but
-//! for a field that the Rust has no name for.
+//! to leave out what the Rust isn't asked about.
 
 use crate::model::frame::{arm64, x86_64, Frame, Refused};
-use crate::oracle::Release;
+use crate::oracle::{is_asked_arm64, Release};
 
 /// None where a field is 7, which the Rust doesn't tell from 0.
 pub fn x86_64(release: &Release, word: u32) -> Option<Result<Frame<6>, Refused>> {
@@ -31,13 +31,18 @@ fn listed(registers: &[u8; 6]) -> &[u8] {
     &registers[..count.unwrap_or(6)]
 }
 
+/// None where the Rust reads pairs from other bits.
 pub fn arm64(release: &Release, word: u32) -> Option<Result<Frame<20>, Refused>> {
+    if !is_asked_arm64(word) {
+        return None;
+    }
     let opcode = (release.parse_arm64)(word);
+    let pairs = arm64::PAIR_BITS.map(|bit| opcode.saved_pairs >> bit & 1 == 1);
     Some(match opcode.answer {
         0 => Err((20, 0)),
         1 => Ok(arm64::frameless(opcode.value.into())),
         2 => Err((21, opcode.value)),
-        3 => Ok(arm64::frame_based(opcode.saved_pairs.into())),
+        3 => Ok(arm64::frame_based(pairs)),
         _ => Err((22, opcode.value)),
     })
 }

@@ -13,7 +13,8 @@ const FRAME: &str = "UNWIND_ARM64_MODE_FRAME";
 const MODES: [Mode; 3] = [(FRAMELESS, &[1]), (DWARF, &[2]), (FRAME, &[3])];
 const UNRECOGNIZED: u8 = 4;
 
-const FIELDS: [Field<OpcodeArm64>; 7] = [
+/// Those of a frame-based word are the nine pairs.
+const FIELDS: [Field<OpcodeArm64>; 11] = [
     (
         "UNWIND_ARM64_FRAMELESS_STACK_SIZE_MASK",
         FRAMELESS,
@@ -38,14 +39,18 @@ const FIELDS: [Field<OpcodeArm64>; 7] = [
     ("UNWIND_ARM64_FRAME_X27_X28_PAIR", FRAME, 1, |opcode| {
         pair(opcode, 4)
     }),
-];
-
-/// The d pairs, which stand at bits 5 to 8 of `saved_pairs`.
-const D_PAIRS: [&str; 4] = [
-    "UNWIND_ARM64_FRAME_D8_D9_PAIR",
-    "UNWIND_ARM64_FRAME_D10_D11_PAIR",
-    "UNWIND_ARM64_FRAME_D12_D13_PAIR",
-    "UNWIND_ARM64_FRAME_D14_D15_PAIR",
+    ("UNWIND_ARM64_FRAME_D8_D9_PAIR", FRAME, 1, |opcode| {
+        pair(opcode, 8)
+    }),
+    ("UNWIND_ARM64_FRAME_D10_D11_PAIR", FRAME, 1, |opcode| {
+        pair(opcode, 9)
+    }),
+    ("UNWIND_ARM64_FRAME_D12_D13_PAIR", FRAME, 1, |opcode| {
+        pair(opcode, 10)
+    }),
+    ("UNWIND_ARM64_FRAME_D14_D15_PAIR", FRAME, 1, |opcode| {
+        pair(opcode, 11)
+    }),
 ];
 
 pub fn compare(report: &mut Report, constants: &Constants) {
@@ -59,7 +64,7 @@ pub fn compare(report: &mut Report, constants: &Constants) {
         case,
     ));
     report.add(fields(constants));
-    report.add_listed(d_pairs(constants));
+    report.add(pair_counts(constants));
 }
 
 fn fields(constants: &Constants) -> Tally {
@@ -78,24 +83,19 @@ fn fields(constants: &Constants) -> Tally {
     tally
 }
 
-/// The header has the d pairs at bits 8 to 11, the crate and ours at bits 5 to 8.
-/// Words rise, so the first that differs is the smallest.
-fn d_pairs(constants: &Constants) -> Tally {
-    let mut tally = Tally::new("header, arm64 d pairs");
-    let masks = D_PAIRS.map(|name| constants.get(name));
-    for low in 0..1 << 12 {
-        let word = constants.get(FRAME) | low;
-        let opcode = ffi::parse_arm64(word);
-        let ours = [5, 6, 7, 8].map(|k| pair(&opcode, k));
-        tally.check(
-            || input("d8/d9 to d14/d15", word),
-            ours,
-            masks.map(|mask| field(word, mask)),
-        );
-    }
+/// The count is how many of the header's pairs are in the word.
+fn pair_counts(constants: &Constants) -> Tally {
+    let mut tally = Tally::new("header, arm64 pair counts");
+    let pairs = FIELDS.iter().filter(|(_, mode, ..)| *mode == FRAME);
+    let masks: Vec<u32> = pairs.map(|(name, ..)| constants.get(name)).collect();
+    words(constants, MASK, FRAME, |word| {
+        let count = ffi::parse_arm64(word).saved_reg_pair_count;
+        let theirs = masks.iter().filter(|&mask| word & mask != 0).count();
+        tally.check(|| input("pair count", word), count.into(), theirs);
+    });
     tally
 }
 
-fn pair(opcode: &OpcodeArm64, k: u16) -> u32 {
-    u32::from(opcode.saved_pairs >> k & 1)
+fn pair(opcode: &OpcodeArm64, bit: u16) -> u32 {
+    u32::from(opcode.saved_pairs >> bit & 1)
 }

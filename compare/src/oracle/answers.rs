@@ -162,19 +162,19 @@ fn parse_arm64(word: u32) -> ffi::OpcodeArm64 {
             answer: 3,
             saved_reg_pair_count,
             saved_pairs: [
-                x19_and_x20_saved,
-                x21_and_x22_saved,
-                x23_and_x24_saved,
-                x25_and_x26_saved,
-                x27_and_x28_saved,
-                d8_and_d9_saved,
-                d10_and_d11_saved,
-                d12_and_d13_saved,
-                d14_and_d15_saved,
+                (x19_and_x20_saved, 0),
+                (x21_and_x22_saved, 1),
+                (x23_and_x24_saved, 2),
+                (x25_and_x26_saved, 3),
+                (x27_and_x28_saved, 4),
+                (d8_and_d9_saved, 8),
+                (d10_and_d11_saved, 9),
+                (d12_and_d13_saved, 10),
+                (d14_and_d15_saved, 11),
             ]
+            .map(|(saved, bit)| u16::from(saved) << bit)
             .iter()
-            .rev()
-            .fold(0, |pairs, &saved| pairs << 1 | u16::from(saved)),
+            .sum(),
             ..none
         },
         OpcodeArm64::UnrecognizedKind(kind) => ffi::OpcodeArm64 {

@@ -22,12 +22,12 @@ const END: u64 = 0;
 const ON_X86_64: u64 = 1;
 const ON_ARM64: u64 = 2;
 const CONTROL: u64 = 100;
-/// Bytes that the file may have.
-const ROOM: usize = 122_880;
+/// Bytes that the file may have: the replay's buffer.
+const ROOM: usize = 131_072;
 
 /// How many real frames of each kind are recorded, at most.
 const REAL_X86_64: [(u32, usize); 4] = [(1, 60), (2, 84), (3, 8), (4, 2)];
-const REAL_ARM64: [(u32, usize); 3] = [(2, 20), (3, 3), (4, 32)];
+const REAL_ARM64: [(u32, usize); 3] = [(2, 20), (3, 3), (4, 48)];
 
 #[derive(Default)]
 struct File {

@@ -59,9 +59,8 @@ impl Stacks {
             case.registers = caller;
         }
         if walk.ends_whole() {
-            let reached = walk.compared(&case.registers);
-            let truth = walk.compared(&walk.reached);
-            self.reached.check(|| walk.id.clone(), reached, truth);
+            self.reached
+                .check(|| walk.id.clone(), case.registers, walk.reached);
         }
     }
 

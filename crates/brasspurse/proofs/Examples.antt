@@ -123,8 +123,8 @@ rows =
     ∷ (word-arm64 (arm64Answer arm64.null), on-arm64 0 0 0 0)
     ∷ (word-arm64 (arm64Answer (arm64.frameless 0x11)), on-arm64 1 0x11 0 0)
     ∷ (word-arm64 (arm64Answer (arm64.dwarf 0x11)), on-arm64 2 0x11 0 0)
-    -- x19/x20, x21/x22, x25/x26 and d8/d9 are bits 0, 1, 3 and 5
-    ∷ (word-arm64 (arm64Answer (arm64.frameBased 4 (true ∷ true ∷ false ∷ true ∷ false ∷ true ∷ false ∷ false ∷ false ∷ []))), on-arm64 3 0 4 0x2b)
+    -- x19/x20, x21/x22, x25/x26, d8/d9 and d14/d15 are bits 0, 1, 3, 8 and 11
+    ∷ (word-arm64 (arm64Answer (arm64.frameBased 5 (true ∷ true ∷ false ∷ true ∷ false ∷ true ∷ false ∷ false ∷ true ∷ []))), on-arm64 3 0 5 0x90b)
     ∷ (word-arm64 (arm64Answer (arm64.unrecognized 0x11)), on-arm64 4 0x11 0 0)
     ∷ (
       lists (parseAnswer (good (record { «global_opcodes_offset» = 0x11; «global_opcodes_len» = 0x12; «pages_offset» = 0x13; «pages_len» = 0x14 }))),

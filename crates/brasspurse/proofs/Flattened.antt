@@ -1,16 +1,15 @@
 -- What was told of an answer, once its case is known, flat.
 -- Assumes nothing.
-use Prim.Native.Nat.{ℕ, _+_, _*_}
+use Prim.Native.Nat.{ℕ}
 use mathlib.Core.Path.{_≡_, refl, ap, sym, _∙_}
-use mathlib.Core.Bool.{Bool, cond}
-use mathlib.Core.List.{List, _∷_}
+use mathlib.Core.List.{List}
 use Rattle.permutation.specs.Permutation as permutation
 use Rattle.permutation.specs.declared.Decoded.{Decoded}
 use Rattle.permutation.specs.declared.Decoded.the-variants.{Accepted, Refused}
 use Rattle.permutation.specs.declared.Encoded.{Encoded}
 use Rattle.brasspurse.specs.declared.permutations.PermutationAnswer.{PermutationAnswer}
 use Rattle.brasspurse.specs.declared.permutations.EncodingAnswer.{EncodingAnswer}
-use Rattle.brasspurse.specs.Flat.{permutationAnswer, encodingAnswer, number}
+use Rattle.brasspurse.specs.Flat.{permutationAnswer, encodingAnswer}
 
 -- a value that is known, through a definition: one step for every answer below
 pub known : {A B C : Type 0} (flat : B → C) (told : A → B) {x y : A} {t : B} → told x ≡ t → x ≡ y → flat (told y) ≡ flat t
@@ -40,7 +39,3 @@ pub encoding-flat : (e k : Encoded) (n : ℕ) (t : permutation.Written) → n �
 encoding-flat e k n t q r p =
     ap {B = EncodingAnswer} (λ (m : ℕ). record { refusal = m; encoding = valueOf k }) (q ∙ ap permutation.encodedNumber p)
     ∙ encoding-case k ∙ known encodingAnswer permutation.toldEncoded r p
-
--- one bit more below a number's bits
-pub pushed : (b : Bool) (bs : List Bool) (n r : ℕ) → r ≡ cond b 1 0 + 2 * n → n ≡ number bs → r ≡ number (b ∷ bs)
-pushed b bs n r e q = e ∙ ap (λ (m : ℕ). cond b 1 0 + 2 * m) q

@@ -1,6 +1,7 @@
 pub mod Flattened
 pub mod Refusals
 pub mod FlatWords
+pub mod SavedPairs
 pub mod FlatFrames
 pub mod FlatUnwinds
 pub mod Batched

@@ -2,9 +2,9 @@
 -- values, 0 where it has none.
 -- Assumes nothing.
 use Prim.Native.Nat.{ℕ, pred, _+_, _*_}
-use mathlib.Core.Bool.{Bool, cond}
-use mathlib.Core.List.{List, [], _∷_}
-use lib.ListN.{getD}
+use mathlib.Core.Bool.{Bool, false, cond}
+use mathlib.Core.List.{List, [], _∷_, _++_}
+use lib.ListN.{getD, take, drop}
 use Rattle.reader.specs.Reader as reader
 use Rattle.permutation.specs.Permutation as permutation
 use Rattle.opcodes.specs.Registers as registers
@@ -54,13 +54,17 @@ abbrev pub number : List Bool → ℕ
 number [] = 0
 number (b ∷ bs) = cond b 1 0 + 2 * number bs
 
+-- The nine pairs as a word has them: five bits, three that name no pair, four bits.
+abbrev pub inPlace : List Bool → List Bool
+inPlace pairs = take 5 pairs ++ false ∷ false ∷ false ∷ drop 5 pairs
+
 abbrev pub arm64Case : ℕ → ℕ → ℕ → List Bool → «OpcodeArm64Answer»
-arm64Case answer value count pairs =
-    record { value = value; answer = answer; «saved_reg_pair_count» = count; «saved_pairs» = number pairs }
+arm64Case answer value count saved =
+    record { value = value; answer = answer; «saved_reg_pair_count» = count; «saved_pairs» = number saved }
 
 abbrev pub arm64Answer : arm.Word → «OpcodeArm64Answer»
 arm64Answer arm.null = arm64Case 0 0 0 []
 arm64Answer (arm.frameless size) = arm64Case 1 size 0 []
 arm64Answer (arm.dwarf low24) = arm64Case 2 low24 0 []
-arm64Answer (arm.frameBased count pairs) = arm64Case 3 0 count pairs
+arm64Answer (arm.frameBased count pairs) = arm64Case 3 0 count (inPlace pairs)
 arm64Answer (arm.unrecognized kind) = arm64Case 4 kind 0 []

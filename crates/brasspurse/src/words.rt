@@ -8,7 +8,7 @@ ghost use Rattle.opcodes.specs.Bits.{bits, kindOf, specificOf};
 ghost use Rattle.opcodes.specs.Registers.{namedOf};
 ghost use Rattle.opcodes.specs.WordsX86 as x86;
 ghost use Rattle.opcodes.specs.WordsArm64 as arm;
-ghost use Rattle.brasspurse.specs.Flat.{registerAnswer, x86Case, x86Answer, number, arm64Case, arm64Answer};
+ghost use Rattle.brasspurse.specs.Flat.{registerAnswer, x86Case, x86Answer, number, inPlace, arm64Case, arm64Answer};
 use opcodes::arm64::OpcodeArm64;
 use opcodes::bitfield::OpcodeBitfield;
 use opcodes::consts::OPCODE_KIND_ARM64_DWARF;
@@ -41,8 +41,8 @@ pub struct OpcodeX86_64Answer {
 }
 
 // answer is 0 null, 1 frameless, 2 DWARF, 3 frame-based, 4 unrecognised kind. value goes by the answer: for 1 the size in bytes, for 2 the
-// 24 bits, for 4 the kind, else 0. saved_pairs has a bit for each pair of a frame-based word: x19/x20 lowest, .. x27/x28, then d8/d9, ..
-// d14/d15.
+// 24 bits, for 4 the kind, else 0. saved_pairs has the pairs of a frame-based word at the word's own bits: x19/x20 to x27/x28 at 0 to 4,
+// d8/d9 to d14/d15 at 8 to 11.
 #[repr(C)]
 pub struct OpcodeArm64Answer {
     pub value: u32,
@@ -212,11 +212,12 @@ struct Pairs {
     d14: bool,
 }
 
+// d comes three bits higher than the next pair would.
 fn pair_bits(p: Pairs) -> u16
-    ensures { λ r. ⌜ r ≡ number (p .x19 ∷ p .x21 ∷ p .x23 ∷ p .x25 ∷ p .x27 ∷ p .d8 ∷ p .d10 ∷ p .d12 ∷ p .d14 ∷ []) ⌝ }
+    ensures { λ r. ⌜ r ≡ number (inPlace (p .x19 ∷ p .x21 ∷ p .x23 ∷ p .x25 ∷ p .x27 ∷ p .d8 ∷ p .d10 ∷ p .d12 ∷ p .d14 ∷ [])) ⌝ }
 {
     let d = bit(p.d8, bit(p.d10, bit(p.d12, bit(p.d14, 0))));
-    bit(p.x19, bit(p.x21, bit(p.x23, bit(p.x25, bit(p.x27, d)))))
+    bit(p.x19, bit(p.x21, bit(p.x23, bit(p.x25, bit(p.x27, 8 * d)))))
 }
 
 // A case that lists no pairs.
@@ -233,7 +234,7 @@ fn arm64_case(answer: u8, value: u32) -> OpcodeArm64Answer
 
 // A number's bits with one more below them.
 fn bit(set: bool, above: u16) -> u16
-    requires { ⌜ above < 256 ⌝ }
+    requires { ⌜ above < 2048 ⌝ }
     ensures { λ r. ⌜ (r ≡ cond set 1 0 + 2 * above) × (r ≤ 1 + 2 * above) ⌝ }
 {
     if set { 1 + 2 * above } else { 2 * above }

@@ -58,7 +58,7 @@ rows =
     ∷ (on-arm64 0x80FEDCBA, says-arm64 arm64.null)
     ∷ (on-arm64 0x92ABCDEF, says-arm64 (arm64.frameless 43968))
     ∷ (on-arm64 0x63ABCDEF, says-arm64 (arm64.dwarf 0xABCDEF))
-    ∷ (on-arm64 0xD4ABC0CD, says-arm64 (arm64.frameBased 5 (true ∷ false ∷ true ∷ true ∷ false ∷ false ∷ true ∷ true ∷ false ∷ [])))
+    ∷ (on-arm64 0xD4ABC6ED, says-arm64 (arm64.frameBased 5 (true ∷ false ∷ true ∷ true ∷ false ∷ false ∷ true ∷ true ∷ false ∷ [])))
     ∷ (on-arm64 0x31000007, says-arm64 (arm64.unrecognized 1))
     ∷ (on-arm64 0x45000007, says-arm64 (arm64.unrecognized 5))
     ∷ (on-arm64 0xBF000001, says-arm64 (arm64.unrecognized 15))

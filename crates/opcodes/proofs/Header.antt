@@ -98,7 +98,6 @@ x86-by-header w =
 abbrev pub modeArm64 : ℕ → ℕ
 modeArm64 w = bitAnd w 0x0F000000  -- UNWIND_ARM64_MODE_MASK
 
--- The masks of the pairs. Those of the d pairs are the Rust's (docs/FORMAT.md, 7.4 and 0.4); the header has 0x100, 0x200, 0x400 and 0x800.
 abbrev pub pairMasks : List ℕ
 pairMasks =
     0x00000001  -- UNWIND_ARM64_FRAME_X19_X20_PAIR
@@ -106,40 +105,48 @@ pairMasks =
     ∷ 0x00000004  -- UNWIND_ARM64_FRAME_X23_X24_PAIR
     ∷ 0x00000008  -- UNWIND_ARM64_FRAME_X25_X26_PAIR
     ∷ 0x00000010  -- UNWIND_ARM64_FRAME_X27_X28_PAIR
-    ∷ 0x00000020 ∷ 0x00000040 ∷ 0x00000080 ∷ 0x00000100 ∷ []
+    ∷ 0x00000100  -- UNWIND_ARM64_FRAME_D8_D9_PAIR
+    ∷ 0x00000200  -- UNWIND_ARM64_FRAME_D10_D11_PAIR
+    ∷ 0x00000400  -- UNWIND_ARM64_FRAME_D12_D13_PAIR
+    ∷ 0x00000800  -- UNWIND_ARM64_FRAME_D14_D15_PAIR
+    ∷ []
 
 abbrev pub pairsArm64 : ℕ → List Bool
 pairsArm64 w = map (λ (mask : ℕ). eqb (bitAnd w mask) mask) pairMasks
 
-abbrev pub headerArm64 : ℕ → arm64.Word
-headerArm64 w =
+-- given the pairs
+abbrev pub byModeArm64 : List Bool → ℕ → arm64.Word
+byModeArm64 pairs w =
     cond (eqb (modeArm64 w) 0) arm64.null
     -- UNWIND_ARM64_MODE_FRAMELESS, UNWIND_ARM64_FRAMELESS_STACK_SIZE_MASK
     (cond (eqb (modeArm64 w) 0x02000000) (arm64.frameless (16 * under 0x00FFF000 12 w))
     -- UNWIND_ARM64_MODE_DWARF, UNWIND_ARM64_DWARF_SECTION_OFFSET
     (cond (eqb (modeArm64 w) 0x03000000) (arm64.dwarf (under 0x00FFFFFF 0 w))
     -- UNWIND_ARM64_MODE_FRAME
-    (cond (eqb (modeArm64 w) 0x04000000) (arm64.frameBased (arm64.ones (pairsArm64 w)) (pairsArm64 w))
+    (cond (eqb (modeArm64 w) 0x04000000) (arm64.frameBased (arm64.ones pairs) pairs)
     (arm64.unrecognized (under 0x0F000000 24 w)))))
 
-pub arm64-by-header : (w : ℕ) → headerArm64 w ≡ arm64.parseOf w
-unfolding arm64.parseOf
-arm64-by-header w =
+abbrev pub headerArm64 : ℕ → arm64.Word
+headerArm64 w = byModeArm64 (pairsArm64 w) w
+
+-- The pairs are those under the header's masks,
+pub arm64-masks : (w : ℕ) → pairsArm64 w ≡ arm64.pairs w
+arm64-masks w =
     simp (
-      compared 24 4 0 w,
-      compared 24 4 2 w,
-      compared 24 4 3 w,
-      compared 24 4 4 w,
-      masked 24 4 w,
-      masked 12 12 w,
-      masked 0 24 w,
       compared 0 1 1 w,
       compared 1 1 1 w,
       compared 2 1 1 w,
       compared 3 1 1 w,
       compared 4 1 1 w,
-      compared 5 1 1 w,
-      compared 6 1 1 w,
-      compared 7 1 1 w,
       compared 8 1 1 w,
+      compared 9 1 1 w,
+      compared 10 1 1 w,
+      compared 11 1 1 w,
     )
+
+-- and so is all that a word says.
+pub arm64-by-header : (w : ℕ) → headerArm64 w ≡ arm64.parseOf w
+unfolding arm64.parseOf
+arm64-by-header w =
+    ap (λ (ps : List Bool). byModeArm64 ps w) (arm64-masks w)
+    ∙ simp (compared 24 4 0 w, compared 24 4 2 w, compared 24 4 3 w, compared 24 4 4 w, masked 24 4 w, masked 12 12 w, masked 0 24 w)

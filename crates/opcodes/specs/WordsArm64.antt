@@ -15,9 +15,9 @@ pub data Word : Type 0 where
   frameBased : (count : ℕ) (pairs : List Bool) → Word
   unrecognized : (kind : ℕ) → Word
 
--- Bits 0 to 4 are the x pairs, and bits 5 to 8 the d pairs.
+-- Bits 0 to 4 are the x pairs, and bits 8 to 11 the d pairs.
 abbrev pub pairs : ℕ → List Bool
-pairs w = bit 0 w ∷ bit 1 w ∷ bit 2 w ∷ bit 3 w ∷ bit 4 w ∷ bit 5 w ∷ bit 6 w ∷ bit 7 w ∷ bit 8 w ∷ []
+pairs w = bit 0 w ∷ bit 1 w ∷ bit 2 w ∷ bit 3 w ∷ bit 4 w ∷ bit 8 w ∷ bit 9 w ∷ bit 10 w ∷ bit 11 w ∷ []
 
 -- how many are set
 abbrev pub ones : List Bool → ℕ

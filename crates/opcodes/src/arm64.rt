@@ -51,20 +51,20 @@ impl OpcodeArm64 {
                 x21_and_x22_saved: opcode / 2 % 2 == 1,
                 x23_and_x24_saved: opcode / 4 % 2 == 1,
                 x25_and_x26_saved: opcode / 8 % 2 == 1,
-                x27_and_x28_saved: opcode / 16 % 2 == 1,
-                d8_and_d9_saved: opcode / 32 % 2 == 1,
-                d10_and_d11_saved: opcode / 64 % 2 == 1,
-                d12_and_d13_saved: opcode / 128 % 2 == 1,
-                d14_and_d15_saved: opcode / 256 % 2 == 1,
+                x27_and_x28_saved: opcode / 0x10 % 2 == 1,
+                d8_and_d9_saved: opcode / 0x100 % 2 == 1,
+                d10_and_d11_saved: opcode / 0x200 % 2 == 1,
+                d12_and_d13_saved: opcode / 0x400 % 2 == 1,
+                d14_and_d15_saved: opcode / 0x800 % 2 == 1,
             },
             other => OpcodeArm64::UnrecognizedKind(other),
         }
     }
 }
 
-// The ones in bits 0 to 8.
+// The ones in bits 0 to 4 and 8 to 11.
 fn pair_count(opcode: u32) -> u8
     ensures { λ r. ⌜ r ≡ ones (pairs opcode) ⌝ }
 {
-    u32::count_ones(opcode % 512) as u8
+    u32::count_ones(opcode & 0xf1f) as u8
 }

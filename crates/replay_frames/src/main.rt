@@ -10,7 +10,7 @@
 //   refusal, value          0 and 0 where there is an answer
 //   the registers after     as many
 //
-// The file `stdin` has 292 steps and 68 controls. 195 steps are of real frames, with the caller that the processor had, or refused with 21 or
+// The file `stdin` has 309 steps and 68 controls. 212 steps are of real frames, with the caller that the processor had, or refused with 21 or
 // 25; 97 are made (named cases, each refusal, edges of the window), with the answer of the second account in compare/src/model/frame.rs. That
 // account gives the same answer for the real ones too. It was made by
 //

@@ -65,20 +65,27 @@ rule-arm64 a d r ds = record { refusal = numbered 0 0; anchor = a; distance = d;
 abbrev refused-arm64 : ℕ → ℕ → Ruling
 refused-arm64 k v = record { refusal = numbered k v; anchor = stack; distance = 0; return = holds 11; below = replicate 20 0 }
 
+-- a frame-based word's
+abbrev based-arm64 : List ℕ → Ruling
+based-arm64 ds = rule-arm64 (register 10) 16 (slot 8) ds
+
 abbrev pub rows-arm64 : List (ℕ × Ruling)
 rows-arm64 =
-    -- frame-based: all pairs; x19/x20, x23/x24, x25/x26, d10/d11 and d12/d13; none
-    (
-      0x040001FF,
-      rule-arm64 (register 10) 16 (slot 8)
-          (24 ∷ 32 ∷ 40 ∷ 48 ∷ 56 ∷ 64 ∷ 72 ∷ 80 ∷ 88 ∷ 96 ∷ 16 ∷ 8 ∷ 104 ∷ 112 ∷ 120 ∷ 128 ∷ 136 ∷ 144 ∷ 152 ∷ 160 ∷ []),
-    )
-    ∷ (
-      0xD4ABC0CD,
-      rule-arm64 (register 10) 16 (slot 8)
-          (24 ∷ 32 ∷ 0 ∷ 0 ∷ 40 ∷ 48 ∷ 56 ∷ 64 ∷ 0 ∷ 0 ∷ 16 ∷ 8 ∷ 0 ∷ 0 ∷ 72 ∷ 80 ∷ 88 ∷ 96 ∷ 0 ∷ 0 ∷ []),
-    )
-    ∷ (0x04000000, rule-arm64 (register 10) 16 (slot 8) (0 ∷ 0 ∷ 0 ∷ 0 ∷ 0 ∷ 0 ∷ 0 ∷ 0 ∷ 0 ∷ 0 ∷ 16 ∷ 8 ∷ replicate 8 0))
+    -- frame-based: all nine pairs; x19/x20, x23/x24, x25/x26, d10/d11 and d12/d13; none
+    (0x04000F1F, based-arm64 (24 ∷ 32 ∷ 40 ∷ 48 ∷ 56 ∷ 64 ∷ 72 ∷ 80 ∷ 88 ∷ 96 ∷ 16 ∷ 8 ∷ 104 ∷ 112 ∷ 120 ∷ 128 ∷ 136 ∷ 144 ∷ 152 ∷ 160 ∷ []))
+    ∷ (0xD4ABC6ED, based-arm64 (24 ∷ 32 ∷ 0 ∷ 0 ∷ 40 ∷ 48 ∷ 56 ∷ 64 ∷ 0 ∷ 0 ∷ 16 ∷ 8 ∷ 0 ∷ 0 ∷ 72 ∷ 80 ∷ 88 ∷ 96 ∷ 0 ∷ 0 ∷ []))
+    ∷ (0x04000000, based-arm64 (0 ∷ 0 ∷ 0 ∷ 0 ∷ 0 ∷ 0 ∷ 0 ∷ 0 ∷ 0 ∷ 0 ∷ 16 ∷ 8 ∷ 0 ∷ 0 ∷ 0 ∷ 0 ∷ 0 ∷ 0 ∷ 0 ∷ 0 ∷ []))
+    -- each pair alone; bits 5 to 7, and 12 to 23, name none
+    ∷ (0x04000001, based-arm64 (24 ∷ 32 ∷ 0 ∷ 0 ∷ 0 ∷ 0 ∷ 0 ∷ 0 ∷ 0 ∷ 0 ∷ 16 ∷ 8 ∷ 0 ∷ 0 ∷ 0 ∷ 0 ∷ 0 ∷ 0 ∷ 0 ∷ 0 ∷ []))
+    ∷ (0x04000002, based-arm64 (0 ∷ 0 ∷ 24 ∷ 32 ∷ 0 ∷ 0 ∷ 0 ∷ 0 ∷ 0 ∷ 0 ∷ 16 ∷ 8 ∷ 0 ∷ 0 ∷ 0 ∷ 0 ∷ 0 ∷ 0 ∷ 0 ∷ 0 ∷ []))
+    ∷ (0x04000004, based-arm64 (0 ∷ 0 ∷ 0 ∷ 0 ∷ 24 ∷ 32 ∷ 0 ∷ 0 ∷ 0 ∷ 0 ∷ 16 ∷ 8 ∷ 0 ∷ 0 ∷ 0 ∷ 0 ∷ 0 ∷ 0 ∷ 0 ∷ 0 ∷ []))
+    ∷ (0x04000008, based-arm64 (0 ∷ 0 ∷ 0 ∷ 0 ∷ 0 ∷ 0 ∷ 24 ∷ 32 ∷ 0 ∷ 0 ∷ 16 ∷ 8 ∷ 0 ∷ 0 ∷ 0 ∷ 0 ∷ 0 ∷ 0 ∷ 0 ∷ 0 ∷ []))
+    ∷ (0x04000010, based-arm64 (0 ∷ 0 ∷ 0 ∷ 0 ∷ 0 ∷ 0 ∷ 0 ∷ 0 ∷ 24 ∷ 32 ∷ 16 ∷ 8 ∷ 0 ∷ 0 ∷ 0 ∷ 0 ∷ 0 ∷ 0 ∷ 0 ∷ 0 ∷ []))
+    ∷ (0x04000100, based-arm64 (0 ∷ 0 ∷ 0 ∷ 0 ∷ 0 ∷ 0 ∷ 0 ∷ 0 ∷ 0 ∷ 0 ∷ 16 ∷ 8 ∷ 24 ∷ 32 ∷ 0 ∷ 0 ∷ 0 ∷ 0 ∷ 0 ∷ 0 ∷ []))
+    ∷ (0x04000200, based-arm64 (0 ∷ 0 ∷ 0 ∷ 0 ∷ 0 ∷ 0 ∷ 0 ∷ 0 ∷ 0 ∷ 0 ∷ 16 ∷ 8 ∷ 0 ∷ 0 ∷ 24 ∷ 32 ∷ 0 ∷ 0 ∷ 0 ∷ 0 ∷ []))
+    ∷ (0x04000400, based-arm64 (0 ∷ 0 ∷ 0 ∷ 0 ∷ 0 ∷ 0 ∷ 0 ∷ 0 ∷ 0 ∷ 0 ∷ 16 ∷ 8 ∷ 0 ∷ 0 ∷ 0 ∷ 0 ∷ 24 ∷ 32 ∷ 0 ∷ 0 ∷ []))
+    ∷ (0x04000800, based-arm64 (0 ∷ 0 ∷ 0 ∷ 0 ∷ 0 ∷ 0 ∷ 0 ∷ 0 ∷ 0 ∷ 0 ∷ 16 ∷ 8 ∷ 0 ∷ 0 ∷ 0 ∷ 0 ∷ 0 ∷ 0 ∷ 24 ∷ 32 ∷ []))
+    ∷ (0x04FFF0E0, based-arm64 (0 ∷ 0 ∷ 0 ∷ 0 ∷ 0 ∷ 0 ∷ 0 ∷ 0 ∷ 0 ∷ 0 ∷ 16 ∷ 8 ∷ 0 ∷ 0 ∷ 0 ∷ 0 ∷ 0 ∷ 0 ∷ 0 ∷ 0 ∷ []))
     ∷ (0x92ABCDEF, rule-arm64 stack 43968 (holds 11) (replicate 20 0))
     ∷ (0x80FEDCBA, refused-arm64 20 0)
     ∷ (0x63ABCDEF, refused-arm64 21 0xABCDEF)

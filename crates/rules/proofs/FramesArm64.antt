@@ -81,8 +81,8 @@ pairs-rise w (suc n) j p b xs h l r =
 -- all of them.
 pub listed-rises : (w : ℕ) → Rising 20 0 (listed w)
 listed-rises w =
-    pairs-rise w 5 0 0 0 (pairs w 4 5 12) (omega arith) (omega arith)
-    (λ c h. rw append-nil at (pairs-rise w 4 5 12 c [] (omega arith) (omega arith) (λ d i. tt)))
+    pairs-rise w 5 0 0 0 (pairs w 4 8 12) (omega arith) (omega arith)
+    (λ c h. rw append-nil at (pairs-rise w 4 8 12 c [] (omega arith) (omega arith) (λ d i. tt)))
 
 -- Slots of a sound word lie apart.
 pub apart : (w : ℕ) (s : Sound w) → Spread 8 (frameOf w s .saved)

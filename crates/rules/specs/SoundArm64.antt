@@ -22,9 +22,9 @@ abbrev pub pairs : ℕ → ℕ → ℕ → ℕ → List ℕ
 pairs w zero j p = []
 pairs w (suc n) j p = cond (eqb (bits j 1 w) 1) (p ∷ suc p ∷ []) [] ++ pairs w n (suc j) (p + 2)
 
--- 9.5. Bits 0 to 4 are x19/x20 to x27/x28, places 0 to 9; bits 5 to 8 are d8/d9 to d14/d15, places 12 to 19. Places 10 and 11 are x29 and x30.
+-- 9.5. Bits 0 to 4 are x19/x20 to x27/x28, places 0 to 9; bits 8 to 11 are d8/d9 to d14/d15, places 12 to 19. Places 10 and 11 are x29 and x30.
 abbrev pub listed : ℕ → List ℕ
-listed w = pairs w 5 0 0 ++ pairs w 4 5 12
+listed w = pairs w 5 0 0 ++ pairs w 4 8 12
 
 -- All frame-based and all frameless words are sound.
 pub data Sound (w : ℕ) : Type 0 where

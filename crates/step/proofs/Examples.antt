@@ -85,9 +85,9 @@ steps-of-x86-64 = refl
 abbrev regs-arm64 : (sp x29 : ℕ) → Regs
 regs-arm64 sp x29 = regsOf 0x1010 sp (rising 10 0xA0 ++ x29 ∷ 0xB1 ∷ rising 8 0xD0)
 
--- 0x04000021 lists x19/x20 and d8/d9, and x29 and x30
+-- 0x04000101 lists x19/x20 and d8/d9, and x29 and x30
 abbrev paired : ℕ → List ℕ → ℕ → Asked
-paired base window x29 = ask 0x04000021 base window (regs-arm64 0x6FF0 x29)
+paired base window x29 = ask 0x04000101 base window (regs-arm64 0x6FF0 x29)
 
 -- sp lowered by 16
 abbrev lowered : ℕ → List ℕ → ℕ → Asked

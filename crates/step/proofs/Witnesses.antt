@@ -76,7 +76,7 @@ kept-arm64 =
     ∷ 0x7F7E7D7C7B7A7978 ∷ 0x8786858483828180 ∷ 0x8F8E8D8C8B8A8988 ∷ 0x9796959493929190 ∷ 0xFFFFFFFFFFFFFFFF ∷ []
 
 -- frame-based: x30, x29, x21, x22, x27, x28, d12 and d13 lie 8, 16 and so on to 64 below CFA; the window has 8 bytes above the whole frame
-abbrev based-arm64 : sound-arm64.Sound 0x84000092
+abbrev based-arm64 : sound-arm64.Sound 0x840004F2
 based-arm64 = sound-arm64.frameBased refl
 
 abbrev based-mem-arm64 : List ℕ
@@ -91,18 +91,18 @@ based-kept-arm64 =
     ∷ 0x7030 ∷ 30 ∷ 0x6766656463626160 ∷ 0x6F6E6D6C6B6A6968 ∷ 0x7776757473727170
     ∷ 0x7F7E7D7C7B7A7978 ∷ 12 ∷ 13 ∷ 0x9796959493929190 ∷ 0xFFFFFFFFFFFFFFFF ∷ []
 
-pub frame-based-arm64 : steps-arm64.stepOf 0x84000092 0x7000 based-mem-arm64 (regsOf 0x1234 0x6FF0 based-kept-arm64) ≡ answered 0x5F5E5D5C5B5A5958 0x7040 kept-arm64
+pub frame-based-arm64 : steps-arm64.stepOf 0x840004F2 0x7000 based-mem-arm64 (regsOf 0x1234 0x6FF0 based-kept-arm64) ≡ answered 0x5F5E5D5C5B5A5958 0x7040 kept-arm64
 frame-based-arm64 =
     let mc : Machine = machine 0x7040 kept-arm64 (rising 72 0xA0) in
-    arm64.undoes 0x84000092 based-arm64 0x7000 mc (entered 8 20 0x7000 0x7040 _ mc (omega arith)) _ _ (body 8 _ _ _ _ _ _ refl)
+    arm64.undoes 0x840004F2 based-arm64 0x7000 mc (entered 8 20 0x7000 0x7040 _ mc (omega arith)) _ _ (body 8 _ _ _ _ _ _ refl)
 
 -- frameless: 48 bytes, and no register may change; the window is the whole frame and ends with the last address
-abbrev lowered-arm64 : sound-arm64.Sound 0x82003092
+abbrev lowered-arm64 : sound-arm64.Sound 0x820034F2
 lowered-arm64 = sound-arm64.frameless refl
 
-pub frameless-arm64 : steps-arm64.stepOf 0x82003092 0xFFFFFFFFFFFFFFCF (rising 48 0x20) (regsOf 0x1234 0xFFFFFFFFFFFFFFCF kept-arm64)
+pub frameless-arm64 : steps-arm64.stepOf 0x820034F2 0xFFFFFFFFFFFFFFCF (rising 48 0x20) (regsOf 0x1234 0xFFFFFFFFFFFFFFCF kept-arm64)
     ≡ answered 0x5F5E5D5C5B5A5958 0xFFFFFFFFFFFFFFFF kept-arm64
 frameless-arm64 =
     let mc : Machine = machine 0xFFFFFFFFFFFFFFFF kept-arm64 (rising 48 0xA0) in
-    arm64.undoes 0x82003092 lowered-arm64 0xFFFFFFFFFFFFFFCF mc
+    arm64.undoes 0x820034F2 lowered-arm64 0xFFFFFFFFFFFFFFCF mc
     (entered 8 20 0xFFFFFFFFFFFFFFCF 0xFFFFFFFFFFFFFFFF _ mc (omega arith)) _ _ (body 8 _ _ _ _ _ _ refl)

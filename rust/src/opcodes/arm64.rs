@@ -5,9 +5,9 @@
 use crate::ffi;
 use std::fmt::{Display, Formatter, Result};
 
-/// What a word of arm64 says, as the original reads it.
+/// What a word of arm64 says: as the original reads it, but for the d pairs of frame-based words.
 ///
-/// Compilers mean something else by two sorts of words; each variant says by which, and
+/// By frameless words compilers mean more; the variant says what, and
 /// [`frames`](crate::frames#where-real-code-differs) what it does to a step.
 #[derive(Copy, Clone, Debug, PartialEq, Eq)]
 pub enum OpcodeArm64 {
@@ -24,9 +24,9 @@ pub enum OpcodeArm64 {
         /// Where: the low 24 bits.
         eh_frame_fde: u32,
     },
-    /// The frame has a frame pointer. The d pairs are read from bits 5 to 8, though compilers have
-    /// them at bits 8 to 11: of a compiler's word with d pairs the five `x…_saved` are right, the
-    /// four `d…_saved` and the count may be wrong.
+    /// The frame has a frame pointer. In the word the x pairs are bits 0 to 4, x19/x20 lowest, and
+    /// the d pairs bits 8 to 11, d8/d9 lowest, as compilers have them; bits 5 to 7 are not read.
+    /// The original has the d pairs at bits 5 to 8: see [the crate](crate#what-differs-in-answers).
     #[allow(missing_docs)]
     FrameBased {
         saved_reg_pair_count: u8,
@@ -57,13 +57,13 @@ impl OpcodeArm64 {
                 eh_frame_fde: word.value,
             },
             3 => {
-                let saved = |pair: u16| word.saved_pairs >> pair & 1 == 1;
+                let saved = |bit: u16| word.saved_pairs >> bit & 1 == 1;
                 OpcodeArm64::FrameBased {
                     saved_reg_pair_count: word.saved_reg_pair_count,
-                    d14_and_d15_saved: saved(8),
-                    d12_and_d13_saved: saved(7),
-                    d10_and_d11_saved: saved(6),
-                    d8_and_d9_saved: saved(5),
+                    d14_and_d15_saved: saved(11),
+                    d12_and_d13_saved: saved(10),
+                    d10_and_d11_saved: saved(9),
+                    d8_and_d9_saved: saved(8),
                     x27_and_x28_saved: saved(4),
                     x25_and_x26_saved: saved(3),
                     x23_and_x24_saved: saved(2),

@@ -68,9 +68,9 @@ const REFUSED_X86_64: [(u32, Refusal); 11] = [
 ];
 
 const REFUSED_ARM64: [(u32, Refusal); 3] = [
-    (0x0000_0021, Refusal::Null),
+    (0x0000_0101, Refusal::Null),
     (0xf3ab_cdef, DWARF),
-    (0x0100_0021, Refusal::UnrecognizedKind(1)),
+    (0x0100_0101, Refusal::UnrecognizedKind(1)),
 ];
 
 #[test]
@@ -107,7 +107,7 @@ fn rules_say_where_registers_lie() {
     assert_eq!(rule.below[RegistersX86_64::RBX], 24);
     assert_eq!(rule.below[RegistersX86_64::R12], 16);
 
-    let rule = RuleArm64::parse(0x0400_0021).unwrap();
+    let rule = RuleArm64::parse(0x0400_0101).unwrap();
     assert_eq!(rule.cfa_register, CfaRegister::FramePointer);
     assert_eq!(rule.cfa_distance, 16);
     let mut below = [0; 20];
@@ -120,6 +120,43 @@ fn rules_say_where_registers_lie() {
     let rule = RuleArm64::parse(0x02ff_f000).unwrap();
     assert_eq!(rule.cfa_register, CfaRegister::StackPointer);
     assert_eq!((rule.cfa_distance, rule.below), (65_520, [0; 20]));
+}
+
+/// x19 to x28, x29 and x30, d8 to d15, as [`RegistersArm64::saved`] has them.
+#[test]
+fn arm64_pairs_lie_in_their_order() {
+    let below = |word| {
+        let below = RuleArm64::parse(word).unwrap().below;
+        let (x, rest) = below.split_at(RegistersArm64::X29);
+        let (frame, d) = rest.split_at(2);
+        assert_eq!(frame, [16, 8], "{word:#010x}");
+        (x.to_vec(), d.to_vec())
+    };
+    let none = (vec![0; 10], vec![0; 8]);
+    assert_eq!(
+        below(0x0400_0f1f),
+        (
+            vec![24, 32, 40, 48, 56, 64, 72, 80, 88, 96],
+            vec![104, 112, 120, 128, 136, 144, 152, 160]
+        )
+    );
+    assert_eq!(
+        below(0x0400_0e01),
+        (
+            vec![24, 32, 0, 0, 0, 0, 0, 0, 0, 0],
+            vec![0, 0, 40, 48, 56, 64, 72, 80]
+        )
+    );
+    assert_eq!(
+        below(0x0400_0512),
+        (
+            vec![0, 0, 24, 32, 0, 0, 0, 0, 40, 48],
+            vec![56, 64, 0, 0, 72, 80, 0, 0]
+        )
+    );
+    for word in [0x0400_0000, 0x0400_00e0, 0xf4ff_f0e0] {
+        assert_eq!(below(word), none, "{word:#010x}");
+    }
 }
 
 #[test]
@@ -185,7 +222,7 @@ fn arm64_steps() {
     caller.saved[RegistersArm64::X29] = 0x7777;
     caller.saved[RegistersArm64::X30] = 0x5005;
     caller.saved[RegistersArm64::D8..][..2].copy_from_slice(&[0xd8, 0xd9]);
-    let step = |window: &[u8]| step_arm64(0x0400_0021, registers, BASE, window);
+    let step = |window: &[u8]| step_arm64(0x0400_0101, registers, BASE, window);
     assert_eq!(step(&window), Ok(caller));
     assert_eq!(step(&window[..47]), Err(Refusal::OutsideWindow));
 

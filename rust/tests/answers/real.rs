@@ -155,10 +155,10 @@ impl<'a> Frame<'a> {
         step_arm64(word, registers, self.number("window_base"), &self.window()).unwrap()
     }
 
-    /// Whether its function saved d pairs, which real code has at other bits than are read here.
+    /// Whether its word is frame-based, of arm64, and marks d pairs.
     fn has_d_pairs(&self) -> bool {
-        let said = self.after("needs_t03");
-        said.map_or(false, |said| said.starts_with("true"))
+        let word = self.number("word");
+        self.text("arch") == "arm64" && word >> 24 & 0b1111 == 4 && word >> 8 & 0b1111 != 0
     }
 
     /// What the combined call should refuse with, if it should.
@@ -178,15 +178,12 @@ fn real_frames_give_the_callers_that_the_processor_had() {
         Some(corpus) => corpus,
         None => return,
     };
-    let (mut callers, mut refusals) = ([0; 2], 0);
+    let (mut callers, mut refusals, mut with_d_pairs) = ([0; 2], 0, 0);
     for name in ["ox_asm", "ox_c", "oa_c", "oa_pairs"] {
         let section = read(corpus.join(format!("sections/{name}.bin")));
         let info = UnwindInfo::parse(&section).unwrap();
         for line in frames(&corpus, name).lines() {
             let frame = Frame(line);
-            if frame.has_d_pairs() {
-                continue;
-            }
             let address = frame.number("address") as u32;
             let (base, window) = (frame.number("window_base"), frame.window());
             let regs = frame.object("regs");
@@ -209,43 +206,19 @@ fn real_frames_give_the_callers_that_the_processor_had() {
             } else {
                 let unwound = info.unwind_arm64(address, regs.arm64(), base, &window);
                 let caller = unwound.map(|unwound| unwound.registers);
-                assert_eq!(caller, Ok(frame.object("expect").arm64()), "{line}");
+                let expected = frame.object("expect").arm64();
+                assert_eq!(caller, Ok(expected), "{line}");
+                assert_eq!(frame.stepped_arm64(), expected, "{line}");
                 callers[1] += 1;
+                with_d_pairs += u32::from(frame.has_d_pairs());
             }
         }
     }
-    assert!(callers[0] > 1_000 && callers[1] > 100 && refusals > 100);
+    assert!(callers[0] > 1_000 && callers[1] > 700 && with_d_pairs > 500 && refusals > 100);
 }
 
-/// What the documentation of `frames` says of them: no refusal, and of the caller's registers all are
-/// right but d8 to d15.
-#[test]
-fn real_frames_with_d_pairs_differ_in_d_registers() {
-    let corpus = match corpus("real_frames_with_d_pairs_differ_in_d_registers") {
-        Some(corpus) => corpus,
-        None => return,
-    };
-    let mut met = 0;
-    for name in ["oa_c", "oa_pairs"] {
-        for line in frames(&corpus, name).lines() {
-            let frame = Frame(line);
-            if !frame.has_d_pairs() {
-                continue;
-            }
-            let (caller, expected) = (frame.stepped_arm64(), frame.object("expect").arm64());
-            let [ours, real] = [caller, expected].map(|registers| registers.saved);
-            let d8 = RegistersArm64::D8;
-            assert_eq!((caller.pc, caller.sp), (expected.pc, expected.sp), "{line}");
-            assert_eq!(ours[..d8], real[..d8], "{line}");
-            assert_ne!(ours[d8..], real[d8..], "{line}");
-            met += 1;
-        }
-    }
-    assert!(met > 100);
-}
-
-/// What the documentation of `frames` says of them: no refusal, pc and sp are right, and the registers
-/// that the function stored stay as they are.
+/// What the documentation of `frames` says of them: no refusal, pc, sp, x29 and x30 are right, and
+/// the registers that the function stored stay as they are.
 #[test]
 fn real_frameless_frames_with_pairs_differ_in_what_they_stored() {
     let corpus = match corpus("real_frameless_frames_with_pairs_differ_in_what_they_stored") {
@@ -257,6 +230,9 @@ fn real_frameless_frames_with_pairs_differ_in_what_they_stored() {
         let frame = Frame(line);
         let (caller, expected) = (frame.stepped_arm64(), frame.object("expect").arm64());
         assert_eq!((caller.pc, caller.sp), (expected.pc, expected.sp), "{line}");
+        for at in [RegistersArm64::X29, RegistersArm64::X30] {
+            assert_eq!(caller.saved[at], expected.saved[at], "{line}");
+        }
         assert_eq!(caller.saved, frame.object("regs").arm64().saved, "{line}");
         assert_ne!(caller.saved, expected.saved, "{line}");
     }

@@ -81,8 +81,9 @@ fn x86_64_words_are_read_as_the_original_reads_them() {
     assert!(kinds.iter().all(|&met| met > 1_000), "{kinds:?}");
 }
 
+/// The original's own expressions for the fields, but for the d pairs and the count.
 #[test]
-fn arm64_words_are_read_as_the_original_reads_them() {
+fn arm64_words_are_read_as_the_original_reads_them_but_for_d_pairs() {
     for opcode in random_words() {
         let expected = match (opcode >> 24 & 0b1111) as u8 {
             0 => OpcodeArm64::Null,
@@ -93,11 +94,11 @@ fn arm64_words_are_read_as_the_original_reads_them() {
                 eh_frame_fde: opcode & 0xff_ffff,
             },
             4 => OpcodeArm64::FrameBased {
-                saved_reg_pair_count: (opcode & 0b1_1111_1111).count_ones() as u8,
-                d14_and_d15_saved: opcode >> 8 & 1 == 1,
-                d12_and_d13_saved: opcode >> 7 & 1 == 1,
-                d10_and_d11_saved: opcode >> 6 & 1 == 1,
-                d8_and_d9_saved: opcode >> 5 & 1 == 1,
+                saved_reg_pair_count: (opcode & 0b1111_0001_1111).count_ones() as u8,
+                d14_and_d15_saved: opcode >> 11 & 1 == 1,
+                d12_and_d13_saved: opcode >> 10 & 1 == 1,
+                d10_and_d11_saved: opcode >> 9 & 1 == 1,
+                d8_and_d9_saved: opcode >> 8 & 1 == 1,
                 x27_and_x28_saved: opcode >> 4 & 1 == 1,
                 x25_and_x26_saved: opcode >> 3 & 1 == 1,
                 x23_and_x24_saved: opcode >> 2 & 1 == 1,
@@ -108,6 +109,100 @@ fn arm64_words_are_read_as_the_original_reads_them() {
         };
         assert_eq!(OpcodeArm64::parse(opcode), expected, "{opcode:#010x}");
     }
+}
+
+/// The count of a frame-based word of arm64, and its pairs, x19/x20 first.
+fn pairs(opcode: u32) -> (u8, [bool; 9]) {
+    match OpcodeArm64::parse(opcode) {
+        OpcodeArm64::FrameBased {
+            saved_reg_pair_count,
+            d14_and_d15_saved,
+            d12_and_d13_saved,
+            d10_and_d11_saved,
+            d8_and_d9_saved,
+            x27_and_x28_saved,
+            x25_and_x26_saved,
+            x23_and_x24_saved,
+            x21_and_x22_saved,
+            x19_and_x20_saved,
+        } => {
+            let pairs = [
+                x19_and_x20_saved,
+                x21_and_x22_saved,
+                x23_and_x24_saved,
+                x25_and_x26_saved,
+                x27_and_x28_saved,
+                d8_and_d9_saved,
+                d10_and_d11_saved,
+                d12_and_d13_saved,
+                d14_and_d15_saved,
+            ];
+            (saved_reg_pair_count, pairs)
+        }
+        other => panic!("{opcode:#010x}: {other}"),
+    }
+}
+
+#[test]
+fn arm64_pairs_are_where_compilers_write_them() {
+    let alone = [
+        0x0400_0001,
+        0x0400_0002,
+        0x0400_0004,
+        0x0400_0008,
+        0x0400_0010,
+        0x0400_0100,
+        0x0400_0200,
+        0x0400_0400,
+        0x0400_0800,
+    ];
+    for (pair, word) in alone.into_iter().enumerate() {
+        let mut expected = [false; 9];
+        expected[pair] = true;
+        assert_eq!(pairs(word), (1, expected), "{word:#010x}");
+    }
+    assert_eq!(pairs(0x0400_0f1f), (9, [true; 9]));
+    assert_eq!(pairs(0xf4ff_ffff), (9, [true; 9]));
+    // Bits 5 to 7, and those above the d pairs, mark none.
+    for word in [
+        0x0400_0000,
+        0x0400_0020,
+        0x0400_0040,
+        0x0400_0080,
+        0x0400_00e0,
+        0xf4ff_f0e0,
+    ] {
+        assert_eq!(pairs(word), (0, [false; 9]), "{word:#010x}");
+    }
+}
+
+/// What the crate's documentation says of the original's d pairs, which are bits 5 to 8: by its own
+/// expressions, on every value of the low 12 bits.
+#[test]
+fn arm64_d_pairs_are_not_the_originals() {
+    let original = |word: u32| {
+        let count = (word & 0b1_1111_1111).count_ones() as u8;
+        let pairs = [0, 1, 2, 3, 4, 5, 6, 7, 8].map(|bit| word >> bit & 1 == 1);
+        (count, pairs)
+    };
+    let mut differ = Vec::new();
+    for word in 0x0400_0000..0x0400_1000 {
+        let bit = |n: u32| word >> n & 1;
+        let alike = bit(5) == bit(8) && bit(8) == bit(11) && bit(6) == bit(9) && bit(7) == bit(10);
+        assert_eq!(pairs(word) == original(word), alike, "{word:#010x}");
+        if !alike {
+            differ.push(word);
+        }
+    }
+    assert_eq!((differ[0], differ.len()), (0x0400_0020, 3_840));
+
+    let [mut d8, mut d14] = [[false; 9]; 2];
+    d8[5] = true;
+    d14[8] = true;
+    assert_eq!(original(0x0400_0020), (1, d8));
+    assert_eq!(pairs(0x0400_0020), (0, [false; 9]));
+    assert_eq!(original(0x0400_0100), (1, d14));
+    assert_eq!(pairs(0x0400_0100), (1, d8));
 }
 
 #[test]
@@ -236,6 +331,11 @@ fn words_print() {
     assert_eq!(arm64(0x0200_2000), "frameless, 32 bytes");
     assert_eq!(arm64(0x0300_0014), "__eh_frame at 0x14");
     assert_eq!(arm64(0x0400_0000), "frame-based");
-    assert_eq!(arm64(0x0400_0021), "frame-based: x19/x20 d8/d9");
+    assert_eq!(arm64(0x0400_00e0), "frame-based");
+    assert_eq!(arm64(0x0400_0101), "frame-based: x19/x20 d8/d9");
+    assert_eq!(
+        arm64(0x0400_0e01),
+        "frame-based: x19/x20 d10/d11 d12/d13 d14/d15"
+    );
     assert_eq!(arm64(0x0100_0000), "unknown kind 1");
 }

@@ -27,11 +27,12 @@ pub fn all() -> Vec<Named<20>> {
 /// d9, d8, x20, x19, then x29 and x30 at 0x9000 to 0x9030.
 fn two_pairs() -> Case<20> {
     let slots = [0xd9, 0xd8, 0x20, 0x19, 0x7777, 0x5005];
-    case(0x0400_0021, registers(1, 0x9020), 0x9000, &slots)
+    case(0x0400_0101, registers(1, 0x9020), 0x9000, &slots)
 }
 
+/// No pair, and all bits that are ignored.
 fn bare() -> Case<20> {
-    case(0xf4ff_fe00, registers(1, 0x9000), 0x9000, &[0x7777, 0x5005])
+    case(0xf4ff_f0e0, registers(1, 0x9000), 0x9000, &[0x7777, 0x5005])
 }
 
 fn frames() -> Vec<Named<20>> {
@@ -109,9 +110,9 @@ fn words() -> Vec<Named<20>> {
         refuses(name, case, answer)
     };
     vec![
-        word("null", 0x0000_0021, (20, 0)),
+        word("null", 0x0000_0101, (20, 0)),
         word("DWARF", 0xf3ab_cdef, (21, 0xab_cdef)),
-        word("kind 1", 0x0100_0021, (22, 1)),
-        word("kind 5", 0x0500_0021, (22, 5)),
+        word("kind 1", 0x0100_0101, (22, 1)),
+        word("kind 5", 0x0500_0101, (22, 5)),
     ]
 }

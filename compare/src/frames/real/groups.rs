@@ -12,8 +12,8 @@ pub struct Groups {
     model: Tally,
     indirect: Tally,
     refused: Tally,
-    /// Words with d pairs, which real code has at other bits (docs/FORMAT.md, 0.4).
-    other_pairs: Tally,
+    /// Callers that come out only with d pairs from bits 8 to 11.
+    d_pairs: Tally,
     /// arm64 frameless words with pair bits, which a rule ignores (docs/FORMAT.md, 0.4).
     ignored_pairs: Tally,
     differing: Tally,
@@ -27,7 +27,7 @@ impl Groups {
             model: tally("model"),
             indirect: tally("indirect words refused"),
             refused: tally("refused as marked"),
-            other_pairs: tally("d pairs"),
+            d_pairs: tally("callers with d pairs"),
             ignored_pairs: tally("frameless with pairs"),
             differing: tally("registers named as differing"),
         }
@@ -39,11 +39,11 @@ impl Groups {
     }
 
     pub fn end(self, report: &mut Report) {
+        report.add(self.d_pairs);
         report.add(self.model);
         report.add(self.indirect);
         report.add(self.refused);
         report.add(self.differing);
-        report.add_listed(self.other_pairs);
         report.add_listed(self.ignored_pairs);
     }
 
@@ -56,26 +56,27 @@ impl Groups {
         callers: &mut Tally,
     ) {
         let input = || format!("{}: {}", frame.id, frame.case);
-        // Of groups that tell registers by their names alone.
-        let short = || format!("{}, word {:#010x}", frame.id, frame.case.word);
-        let differing = |caller| (ours.refusal, machine.differing(&ours.registers, caller));
         self.model.check(input, ours, frame.case.model(machine));
         match frame.told {
-            Told::Caller(caller) => callers.check(input, ours, returned(caller)),
+            Told::Caller(caller) => {
+                let group = if frame.needs_d_pairs {
+                    &mut self.d_pairs
+                } else {
+                    callers
+                };
+                group.check(input, ours, returned(caller))
+            }
             Told::Indirect => self.indirect.check(input, ours, frame.case.refused(25, 0)),
             Told::Refused(refusal, value) => {
                 let refused = frame.case.refused(refusal, value);
                 self.refused.check(input, ours, refused)
             }
-            Told::OtherPairs(ref caller) => {
-                self.other_pairs
-                    .check(short, differing(caller), (0, vec![]))
-            }
             Told::Differs(ref caller, ref named) => {
+                let differing = (ours.refusal, machine.differing(&ours.registers, caller));
                 let named = named.iter().map(String::as_str).collect();
-                self.differing.check(input, differing(caller), (0, named));
-                self.ignored_pairs
-                    .check(short, differing(caller), (0, vec![]))
+                self.differing.check(input, differing.clone(), (0, named));
+                let input = || format!("{}, word {:#010x}", frame.id, frame.case.word);
+                self.ignored_pairs.check(input, differing, (0, vec![]))
             }
         };
     }

@@ -12,6 +12,8 @@ pub struct Executed<const N: usize> {
     pub id: String,
     pub case: Case<N>,
     pub told: Told<N>,
+    /// Marked: with d pairs from bits 5 to 8 the caller would be another.
+    pub needs_d_pairs: bool,
     /// A section's name, and the address in it that has the word.
     pub section: String,
     pub address: u32,
@@ -23,7 +25,6 @@ pub enum Told<const N: usize> {
     Indirect,
     /// Number and value.
     Refused(u32, u32),
-    OtherPairs(Registers<N>),
     /// Registers that a step gives otherwise, in the order of their names.
     Differs(Registers<N>, Vec<String>),
 }
@@ -79,6 +80,7 @@ fn executed<const N: usize>(machine: &Machine<N>, frame: &Json) -> Option<Execut
             bytes: bytes(text("window")?)?,
         },
         told: told(machine, frame)?,
+        needs_d_pairs: needs_d_pairs(frame),
         section: text("section")?.strip_suffix(".bin")?.to_owned(),
         address: hex("address")?.try_into().ok()?,
     })
@@ -94,13 +96,14 @@ fn told<const N: usize>(machine: &Machine<N>, frame: &Json) -> Option<Told<N>> {
         return Some(Told::Indirect);
     }
     let caller = registers(machine, frame.get("expect")?)?;
-    Some(
-        match (frame.get("model_differs_in"), frame.get("needs_t03")) {
-            (Some(named), _) => Told::Differs(caller, names(named)?),
-            (None, Some(Json::Truth(true))) => Told::OtherPairs(caller),
-            (None, _) => Told::Caller(caller),
-        },
-    )
+    Some(match frame.get("model_differs_in") {
+        Some(named) => Told::Differs(caller, names(named)?),
+        None => Told::Caller(caller),
+    })
+}
+
+fn needs_d_pairs(frame: &Json) -> bool {
+    matches!(frame.get("needs_t03"), Some(Json::Truth(true)))
 }
 
 pub fn registers<const N: usize>(machine: &Machine<N>, named: &Json) -> Option<Registers<N>> {

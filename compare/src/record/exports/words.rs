@@ -180,19 +180,20 @@ const RULED_X86_64: [u32; 6] = [
     0x0206_1700,
     0x0201_03ff,
 ];
-/// Each pair alone, and all of them.
-const RULED_ARM64: [u32; 11] = [
+/// Each pair alone, all of them, some with ignored bits, and bits 5 to 7, which name none.
+const RULED_ARM64: [u32; 12] = [
     0x0400_0001,
     0x0400_0002,
     0x0400_0004,
     0x0400_0008,
     0x0400_0010,
-    0x0400_0020,
-    0x0400_0040,
-    0x0400_0080,
     0x0400_0100,
-    0x0400_01ff,
+    0x0400_0200,
+    0x0400_0400,
+    0x0400_0800,
+    0x0400_0f1f,
     0x0400_0aaa,
+    0x0400_00e0,
 ];
 
 /// The words given and those of the named cases.

@@ -55,7 +55,7 @@ fn recorded<const N: usize>(frame: &Executed<N>) -> Option<Recorded<N>> {
         Told::Caller(caller) => returned(caller),
         Told::Indirect => frame.case.refused(25, 0),
         Told::Refused(refusal, value) => frame.case.refused(refusal, value),
-        Told::OtherPairs(_) | Told::Differs(..) => return None,
+        Told::Differs(..) => return None,
     };
     Some((frame.case.clone(), answer))
 }

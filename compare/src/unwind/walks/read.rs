@@ -3,7 +3,7 @@
 use crate::ffi::frame::Registers;
 use crate::frames::case::Case;
 use crate::frames::json::{self, Json};
-use crate::frames::machine::{numbers, Machine, ARM64, X86_64};
+use crate::frames::machine::{Machine, ARM64, X86_64};
 use crate::frames::real::read::{bytes, registers};
 use crate::sections::corpus::{files, malformed, unpacked};
 use std::io::Result;
@@ -21,8 +21,6 @@ pub struct Walk<const N: usize> {
     end: (u32, u64),
     /// The frame whose word is indirect, if one is.
     indirect: Option<u32>,
-    /// A word has d pairs, which real code has at other bits (docs/FORMAT.md, 0.4).
-    has_d_pairs: bool,
     pub reached: Registers<N>,
 }
 
@@ -48,12 +46,6 @@ impl<const N: usize> Walk<N> {
     /// Whether all its frames can be stepped out of up to its end.
     pub fn ends_whole(&self) -> bool {
         self.indirect.is_none()
-    }
-
-    /// The registers that must come out: all, or without d8 to d15.
-    pub fn compared(&self, registers: &Registers<N>) -> Vec<u64> {
-        let count = 2 + if self.has_d_pairs { 12 } else { N };
-        numbers(registers).take(count).collect()
     }
 }
 
@@ -116,7 +108,6 @@ fn parsed<const N: usize>(machine: &Machine<N>, walk: &Json) -> Option<Walk<N>> 
             Json::Number(frame) => Some(*frame),
             _ => None,
         },
-        has_d_pairs: matches!(walk.get("needs_t03")?, Json::Truth(true)),
         reached: registers(machine, expect.get("regs")?)?,
     })
 }

@@ -1,7 +1,7 @@
 //! arm64's prologues.
 
 use super::{Prologue, Running};
-use crate::model::frame::arm64::{PAIRS, X29, X30};
+use crate::model::frame::arm64::{PAIRS, PAIR_BITS, X29, X30};
 use crate::random::Random;
 
 /// Size in sixteens.
@@ -34,8 +34,9 @@ impl Prologue<20> for Made {
         match self {
             Made::Frameless { size } => noise & 0xf000_0fff | 2 << 24 | size << 12,
             Made::FrameBased { pairs } => {
-                let pairs = (0..).zip(pairs).map(|(k, &pair)| u32::from(pair) << k);
-                noise & 0xf0ff_fe00 | 4 << 24 | pairs.sum::<u32>()
+                let pairs = PAIR_BITS.into_iter().zip(pairs);
+                let pairs = pairs.map(|(bit, &pair)| u32::from(pair) << bit);
+                noise & 0xf0ff_f0e0 | 4 << 24 | pairs.sum::<u32>()
             }
         }
     }

@@ -1,8 +1,7 @@
 -- `opcodes::arm64::pair_count` meets its contract.
 -- Assumes nothing.
-use Prim.Native.Nat.{_%_}
-use native.Mathlib.Nat.{mod-lt}
 use native.Mathlib.Omega.{arith}
+use lib.Bits.{bitAnd, and-le-r}
 use lib.Count.{ones-le}
 use Rattle.opcodes.proofs.KindsArm64.{pairs-counted}
 use Rattle.opcodes.proofs.arm64.pair_count.Statement.{statement}
@@ -10,7 +9,8 @@ use Rattle.opcodes.proofs.arm64.pair_count.Tie as tie
 
 cast-result : tie.Need-cast-result
 cast-result c =
-    record { fits = omega (arith, ones-le 9 (c .args .opcode % 512) (mod-lt (c .args .opcode) (omega arith))) }
+    let w = c .args .opcode in
+    record { fits = omega (arith, ones-le 12 (bitAnd w 0xF1F) (omega (arith, and-le-r w 0xF1F))) }
 
 returns : tie.Need-returns
 returns c = pairs-counted (c .args .opcode)
