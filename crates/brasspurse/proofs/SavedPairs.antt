@@ -7,7 +7,8 @@ use native.Mathlib.Omega.{arith}
 use lib.Bits.{bitAnd}
 use Rattle.opcodes.specs.Bits.{bits, kindOf}
 use Rattle.opcodes.specs.WordsArm64.{Word, pairs, parseOf}
-use Rattle.opcodes.proofs.KindsArm64.{of-kind, bitsFrom, digit, bit-is, under-mask}
+use Rattle.opcodes.proofs.FieldBits.{bitsFrom, digit, bit-is}
+use Rattle.opcodes.proofs.KindsArm64.{of-kind, under-mask}
 use Rattle.brasspurse.specs.Flat.{number, inPlace, arm64Answer}
 
 spelled : (n i w : ℕ) → number (bitsFrom i n w) ≡ bits i n w
@@ -22,3 +23,7 @@ in-place w =
 -- 0xF1F is the sum of the masks
 pub saved-in-place : (w : ℕ) → kindOf w ≡ 4 → arm64Answer (parseOf w) .«saved_pairs» ≡ bitAnd w 0xF1F
 saved-in-place w k = ap (λ (t : Word). arm64Answer t .«saved_pairs») (of-kind 4 w k) ∙ in-place w
+
+-- so of a word with five pairs, and with all bits that name none
+pub five-in-place : arm64Answer (parseOf 0xF4FFF6ED) .«saved_pairs» ≡ 0x60D
+five-in-place = saved-in-place 0xF4FFF6ED refl

@@ -1,21 +1,20 @@
 -- What an arm64 word says, once its kind is known, and how many of its pairs are set.
 -- Assumes nothing.
-use Prim.Native.Nat.{ℕ, zero, suc, _+_, _/_, _*_, _%_, _^_, _<_}
+use Prim.Native.Nat.{ℕ, _+_, _*_, _/_, _%_, _^_, _<_}
 use mathlib.Core.Path.{_≡_, refl, ap, sym, _∙_}
-use mathlib.Core.Bool.{Bool, cond}
-use mathlib.Core.List.{List, [], _∷_}
-use native.Mathlib.Nat.{div-one, mod-one, mod-lt, div-add-mod'}
-use native.Mathlib.Numerals.{add-one}
+use mathlib.Core.List.{_∷_}
+use native.Mathlib.Nat.{div-one, mod-lt, div-add-mod'}
 use lib.Bits.{bitAnd, and-block, and-mask}
-use lib.Pow.{mod-mod-pow, field, shr-shr}
+use lib.Pow.{mod-mod-pow}
 use native.Mathlib.Omega.{arith}
 use lib.Dec.{eqb}
-use lib.Count.{ones-step, ones-cat}
+use lib.Count.{ones-cat}
 use lib.Count as count
 use lib.ListN.{drop}
 use borrow.Author.Tests.{ne-eqb}
-use Rattle.opcodes.specs.Bits.{bits, bit, kindOf}
+use Rattle.opcodes.specs.Bits.{bits, kindOf}
 use Rattle.opcodes.specs.WordsArm64.{dwarf, frameBased, unrecognized, pairs, ones, byKind, parseOf}
+use Rattle.opcodes.proofs.FieldBits.{counted}
 
 pub of-kind : (k w : ℕ) → kindOf w ≡ k → parseOf w ≡ byKind k w
 unfolding parseOf
@@ -23,44 +22,6 @@ of-kind k w e = ap (λ (j : ℕ). byKind j w) e
 
 pub of-no-kind : (k w : ℕ) → kindOf w ≡ k → (k ≡ 0 → ⊥) → (k ≡ 2 → ⊥) → (k ≡ 3 → ⊥) → (k ≡ 4 → ⊥) → parseOf w ≡ unrecognized k
 of-no-kind k w e n0 n2 n3 n4 = of-kind k w e ∙ simp (ne-eqb k 0 n0, ne-eqb k 2 n2, ne-eqb k 3 n3, ne-eqb k 4 n4)
-
--- n bits of w, from bit i on
-abbrev pub bitsFrom : ℕ → ℕ → ℕ → List Bool
-bitsFrom i zero w = []
-bitsFrom i (suc n) w = bit i w ∷ bitsFrom (suc i) n w
-
-ones-of-zero : count.ones 0 ≡ 0
-unfolding count.ones count.onesIn
-ones-of-zero = refl
-
--- of a field's digits the lowest, and the rest
-module _ (n i w : ℕ) where
-  abbrev v : ℕ
-  v = w / 2 ^ i
-
-  lowest : bits i (suc n) w % 2 ≡ bits i 1 w
-  lowest = ap (λ (k : ℕ). v % 2 ^ k % 2) (sym (add-one n)) ∙ mod-mod-pow v n 1
-
-  rest : bits i (suc n) w / 2 ≡ bits (suc i) n w
-  rest =
-      ap (λ (k : ℕ). v % 2 ^ k / 2) (sym (add-one n)) ∙ field v n 1
-      ∙ ap (λ (x : ℕ). x % 2 ^ n) (shr-shr w i 1 ∙ ap (λ (k : ℕ). w / 2 ^ k) (add-one i))
-
-  pub digit : bits i (suc n) w ≡ bits i 1 w + 2 * bits (suc i) n w
-  digit = omega (arith, lowest, rest)
-
--- a bit is 0 or 1
-pub bit-is : (low w : ℕ) → cond (bit low w) 1 0 ≡ bits low 1 w
-bit-is low w = go (bits low 1 w) (mod-lt (w / 2 ^ low) (omega arith))
-  where
-    go : (x : ℕ) → x < 2 → cond (eqb x 1) 1 0 ≡ x
-    go zero h = refl
-    go (suc zero) h = refl
-    go (suc (suc x)) h = absurd (omega arith)
-
-counted : (n i w : ℕ) → count.ones (bits i n w) ≡ ones (bitsFrom i n w)
-counted zero i w = ap count.ones (mod-one (w / 2 ^ i)) ∙ ones-of-zero
-counted (suc n) i w = ones-step (bits i (suc n) w) ∙ rw (lowest n i w, rest n i w, bit-is i w, counted n (suc i) w) refl
 
 -- under its mask a word has bits 0 to 4 and 8 to 11
 pub under-mask : (w : ℕ) → bitAnd w 0xF1F ≡ bits 8 4 w * 2 ^ 8 + bits 0 5 w

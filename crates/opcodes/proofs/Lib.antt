@@ -1,4 +1,5 @@
 pub mod KindsX86
+pub mod FieldBits
 pub mod KindsArm64
 pub mod Header
 pub mod One
