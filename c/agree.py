@@ -5,12 +5,12 @@
     c/agree.py DEFINED CALLED   to the library and the test too
 
 Compared with the sources in crates/ are the functions, their parameters and what they return,
-every field of every struct, in their order, the numbers of the origins, and the refusals' names and
-numbers; each refusal must have a text of its own in brasspurse_refusal_text. The header's version
-must be that of rust/Cargo.toml and the newest of CHANGELOG.md. DEFINED is the output of `nm -P` on
-what libbrasspurse.a defines, CALLED on what the test's object takes from elsewhere: with these, the
-functions' names are compared. What differs is printed, and the exit status is 1. So it is for a
-line of either side that is not understood.
+every field of every struct, in their order, the numbers of the origins and of a register's states,
+and the refusals' names and numbers; each refusal must have a text of its own in
+brasspurse_refusal_text. The header's version must be that of rust/Cargo.toml and the newest of
+CHANGELOG.md. DEFINED is the output of `nm -P` on what libbrasspurse.a defines, CALLED on what the
+test's object takes from elsewhere: with these, the functions' names are compared. What differs is
+printed, and the exit status is 1. So it is for a line of either side that is not understood.
 """
 
 import re
@@ -30,8 +30,12 @@ SCALARS = {
     "bool": "bool",
 }
 
-# The header's names for the sources' origins.
+# The header's names for structs that the sources name otherwise. Each must be met.
+STRUCTS = {"WordArm64": "OpcodeArm64Answer"}
+
+# The header's names for the sources' origins, and for what a number says of a register.
 ORIGINS = {"Regular": "REGULAR_ENTRY", "Global": "GLOBAL_OPCODES", "Local": "LOCAL_OPCODES"}
+STATES = {"Absent": "ABSENT", "Register": "NAMED", "Unknown": "UNKNOWN"}
 
 # The only lines for the preprocessor, so that none hides a declaration.
 DIRECTIVE = re.compile(
@@ -295,6 +299,9 @@ class Library:
                 told = [p for parameter in parameters for p in self.told(source, *parameter)]
                 back = "void" if returned == "()" else self.plain(source, returned)
                 self.functions[name] = (back, told)
+        met = {name for _, name in self.defined.values()}
+        for name in STRUCTS.keys() - met:
+            sys.exit(f"the sources hand no struct {name} to C")
 
     def file(self, path):
         if path not in self.files:
@@ -334,8 +341,8 @@ class Library:
         where = source.path.relative_to(ROOT)
         if name not in source.structs:
             sys.exit(f"{where}: there is no struct {name}")
-        in_c = "brasspurse_" + snake(name)
-        if self.defined.setdefault(in_c, source.path) != source.path:
+        in_c = "brasspurse_" + snake(STRUCTS.get(name, name))
+        if self.defined.setdefault(in_c, (source.path, name)) != (source.path, name):
             sys.exit(f"{in_c} stands for two structs")
         if in_c not in self.structs:
             as_c, fields = source.structs[name]
@@ -394,6 +401,13 @@ def origins(crates):
     yield "ORIGIN_NONE", 0
     for name, number in numbered(crates / "entries/src/lib.rt"):
         yield "ORIGIN_" + ORIGINS.get(name, snake(name).upper()), number
+
+
+def states(crates):
+    """What a number says of a register, as the header names it."""
+    source = (crates / "brasspurse/src/words.rt").read_text()
+    for name, number in re.findall(r"Named::(\w+)[^=]*=> RegisterAnswer {\s*state: (\d+),", source):
+        yield "REGISTER_" + STATES.get(name, snake(name).upper()), int(number)
 
 
 def refusals(crates):
@@ -461,6 +475,7 @@ def main():
         *differences("function", library.functions, header.functions, "the sources"),
         *differences("struct", library.structs, header.structs, "the sources"),
         *alone(origins(CRATES), header.enums["brasspurse_origin"]),
+        *alone(states(CRATES), header.enums["brasspurse_register_state"]),
         *wrong_refusals(header, CRATES),
         *wrong_versions(header),
     ]

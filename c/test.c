@@ -1,6 +1,7 @@
 /* Calls every function of brasspurse.h. The numbers expected are worked out by hand, from what
- * docs/FORMAT.md says. As far as it goes no two fields of an answer are alike, so that two that
- * changed places are seen. */
+ * docs/FORMAT.md says; where all words of a sort are asked about, a second account here gives them.
+ * As far as it goes no two fields of an answer are alike, so that two that changed places are
+ * seen. */
 #include "brasspurse.h"
 
 #include <inttypes.h>
@@ -20,8 +21,8 @@ SIZE(range_answer, 12);
 SIZE(lookup_answer, 24);
 SIZE(next_answer, 32);
 SIZE(fill_answer, 24);
-SIZE(register_answer, 8);
-SIZE(opcode_x86_64_answer, 12);
+SIZE(register_answer, 12);
+SIZE(opcode_x86_64_answer, 16);
 SIZE(opcode_arm64_answer, 8);
 SIZE(permutation_answer, 12);
 SIZE(encoding_answer, 8);
@@ -46,14 +47,19 @@ PLACE(next_answer, function_index, 24);
 PLACE(next_answer, origin, 28);
 PLACE(next_answer, outcome, 29);
 PLACE(next_answer, refusal, 30);
+PLACE(register_answer, number, 4);
+PLACE(register_answer, dwarf_number, 8);
+PLACE(opcode_x86_64_answer, fields, 6);
+PLACE(opcode_x86_64_answer, field_states, 8);
+PLACE(opcode_x86_64_answer, popped_regs, 10);
 PLACE(rule_x86_64_answer, below, 20);
 PLACE(rule_arm64_answer, below, 20);
 PLACE(unwind_x86_64_answer, registers, 16);
 PLACE(unwind_arm64_answer, registers, 16);
 PLACE(read_answer, value, 8);
 
-/* The numbers of the refusals (docs/FORMAT.md, 11), of the origins and of the pairs. The calls
- * below hold the library to these names. */
+/* The numbers of the refusals (docs/FORMAT.md, 11), of the origins, of a register's states and of
+ * the pairs. The calls below hold the library to these names. */
 
 #define NUMBER(name, number) ASSERT(name, BRASSPURSE_##name == (number))
 
@@ -89,6 +95,10 @@ NUMBER(ORIGIN_REGULAR_ENTRY, 1);
 NUMBER(ORIGIN_GLOBAL_OPCODES, 2);
 NUMBER(ORIGIN_LOCAL_OPCODES, 3);
 
+NUMBER(REGISTER_ABSENT, 0);
+NUMBER(REGISTER_NAMED, 1);
+NUMBER(REGISTER_UNKNOWN, 2);
+
 NUMBER(PAIR_X19_X20, 1);
 NUMBER(PAIR_X21_X22, 2);
 NUMBER(PAIR_X23_X24, 4);
@@ -101,12 +111,15 @@ NUMBER(PAIR_D14_D15, 2048);
 
 static unsigned checks, failed;
 
+/* Of what is wrong the first hundred are printed. */
 static void same(int line, const char *what, uint64_t got, uint64_t expected)
 {
     checks++;
     if (got == expected)
         return;
     failed++;
+    if (failed > 100)
+        return;
     printf("test.c:%d: %s is 0x%" PRIx64 ", expected 0x%" PRIx64 "\n", line, what, got, expected);
 }
 
@@ -317,16 +330,33 @@ static void permutations(void)
     IS(e.encoding, 0);
 }
 
+/* What a number says of a register. */
+static uint32_t state_of(unsigned number)
+{
+    if (number == 0)
+        return BRASSPURSE_REGISTER_ABSENT;
+    return number <= 6 ? BRASSPURSE_REGISTER_NAMED : BRASSPURSE_REGISTER_UNKNOWN;
+}
+
+/* `fields` has a digit for each field, field 0 first, and `popped` one for each place. */
 static void word_x86_64(int line, uint32_t word, uint8_t answer, uint32_t value, uint8_t adjust,
-                        const char regs[7])
+                        const char fields[6], const char popped[7])
 {
     struct brasspurse_opcode_x86_64_answer w = brasspurse_parse_x86_64(word);
 
     same(line, "answer", w.answer, answer);
     same(line, "value", w.value, value);
     same(line, "stack_adjust_in_bytes", w.stack_adjust_in_bytes, adjust);
+    for (unsigned k = 0; k < 5; k++) {
+        const unsigned number = (unsigned)(fields[k] - '0');
+
+        same(line, "field", brasspurse_field(w.fields, k), number);
+        same(line, "state", brasspurse_field(w.field_states, k), state_of(number));
+    }
+    same(line, "bit 15 of fields", w.fields >> 15, 0);
+    same(line, "bit 15 of field_states", w.field_states >> 15, 0);
     for (int i = 0; i < 6; i++)
-        same(line, "saved_regs", w.saved_regs[i], (uint64_t)(regs[i] - '0'));
+        same(line, "popped_regs", w.popped_regs[i], (uint64_t)(popped[i] - '0'));
 }
 
 static void word_arm64(int line, uint32_t word, uint8_t answer, uint32_t value, uint8_t count,
@@ -345,31 +375,36 @@ static void word_arm64(int line, uint32_t word, uint8_t answer, uint32_t value, 
 
 static void words(void)
 {
-    const uint8_t dwarf_numbers[6] = {3, 12, 13, 14, 15, 6};
-    struct brasspurse_register_answer r;
-
     IS(brasspurse_opcode_kind(0xf6abcdef), 6);
     IS(brasspurse_opcode_specific_bits(0xf6abcdef), 0xabcdef);
 
-    for (uint8_t n = 1; n <= 6; n++) {
-        r = brasspurse_register_x86_64(n);
-        IS(r.named, 1);
-        IS(r.dwarf_number, dwarf_numbers[n - 1]);
-    }
-    r = brasspurse_register_x86_64(0);
-    IS(r.named, 0);
-    IS(r.dwarf_number, 0);
-    r = brasspurse_register_x86_64(7);
-    IS(r.named, 0);
-    IS(r.dwarf_number, 0);
+    WORD_X86_64(0x00abcdef, BRASSPURSE_X86_64_NULL, 0, 0, "00000", "000000");
+    WORD_X86_64(FIELDS, BRASSPURSE_X86_64_FRAME_BASED, 48, 0, "31524", "000000");
+    WORD_X86_64(PUSHES, BRASSPURSE_X86_64_FRAMELESS_IMMEDIATE, 80, 0, "00000", "316452");
+    WORD_X86_64(INDIRECT, BRASSPURSE_X86_64_FRAMELESS_INDIRECT, 42, 40, "00000", "316452");
+    WORD_X86_64(0x04abcdef, BRASSPURSE_X86_64_DWARF, 0xabcdef, 0, "00000", "000000");
+    WORD_X86_64(0x02001ad0, BRASSPURSE_X86_64_INVALID_FRAMELESS, 0, 0, "00000", "000000");
+    WORD_X86_64(0x09abcdef, BRASSPURSE_X86_64_UNRECOGNIZED_KIND, 9, 0, "00000", "000000");
 
-    WORD_X86_64(0x00abcdef, BRASSPURSE_X86_64_NULL, 0, 0, "000000");
-    WORD_X86_64(FIELDS, BRASSPURSE_X86_64_FRAME_BASED, 48, 0, "315240");
-    WORD_X86_64(PUSHES, BRASSPURSE_X86_64_FRAMELESS_IMMEDIATE, 80, 0, "316452");
-    WORD_X86_64(INDIRECT, BRASSPURSE_X86_64_FRAMELESS_INDIRECT, 42, 40, "316452");
-    WORD_X86_64(0x04abcdef, BRASSPURSE_X86_64_DWARF, 0xabcdef, 0, "000000");
-    WORD_X86_64(0x02001ad0, BRASSPURSE_X86_64_INVALID_FRAMELESS, 0, 0, "000000");
-    WORD_X86_64(0x09abcdef, BRASSPURSE_X86_64_UNRECOGNIZED_KIND, 9, 0, "000000");
+    /* The smallest word with an absent field, and with an unknown one; then each place alone. */
+    WORD_X86_64(0x01000000, BRASSPURSE_X86_64_FRAME_BASED, 0, 0, "00000", "000000");
+    WORD_X86_64(0x01000007, BRASSPURSE_X86_64_FRAME_BASED, 0, 0, "70000", "000000");
+    WORD_X86_64(0x01000038, BRASSPURSE_X86_64_FRAME_BASED, 0, 0, "07000", "000000");
+    WORD_X86_64(0x010001c0, BRASSPURSE_X86_64_FRAME_BASED, 0, 0, "00700", "000000");
+    WORD_X86_64(0x01000e00, BRASSPURSE_X86_64_FRAME_BASED, 0, 0, "00070", "000000");
+    WORD_X86_64(0x01007000, BRASSPURSE_X86_64_FRAME_BASED, 0, 0, "00007", "000000");
+    /* Bits 15 and 28 to 31 say nothing. */
+    WORD_X86_64(0x912ac54b, BRASSPURSE_X86_64_FRAME_BASED, 336, 0, "31524", "000000");
+    WORD_X86_64(0x01008000, BRASSPURSE_X86_64_FRAME_BASED, 0, 0, "00000", "000000");
+    WORD_X86_64(0x41ff7fff, BRASSPURSE_X86_64_FRAME_BASED, 2040, 0, "77777", "000000");
+    WORD_X86_64(0x01010e06, BRASSPURSE_X86_64_FRAME_BASED, 8, 0, "60070", "000000");
+    /* The same in numbers. */
+    IS(brasspurse_parse_x86_64(0x01000007).fields, 7);
+    IS(brasspurse_parse_x86_64(0x01000007).field_states, 2);
+    IS(brasspurse_parse_x86_64(0x912ac54b).fields, 0x454b);
+    IS(brasspurse_parse_x86_64(0x912ac54b).field_states, 0x1249);
+    IS(brasspurse_parse_x86_64(0x41ff7fff).fields, 0x7fff);
+    IS(brasspurse_parse_x86_64(0x41ff7fff).field_states, 0x2492);
 
     WORD_ARM64(0x00abcdef, BRASSPURSE_ARM64_NULL, 0, 0, 0);
     WORD_ARM64(0x02abc000, BRASSPURSE_ARM64_FRAMELESS, 43968, 0, 0);
@@ -384,6 +419,160 @@ static void words(void)
     WORD_ARM64(PAIRS, BRASSPURSE_ARM64_FRAME_BASED, 0, 9, 0xf1f);
     WORD_ARM64(0x04ffffff, BRASSPURSE_ARM64_FRAME_BASED, 0, 9, 0xf1f);
     WORD_ARM64(0x07abcdef, BRASSPURSE_ARM64_UNRECOGNIZED_KIND, 7, 0, 0);
+}
+
+/* Every number that can be asked about. */
+static void registers(void)
+{
+    const uint32_t dwarf_numbers[256] = {0, 3, 12, 13, 14, 15, 6};
+
+    for (unsigned n = 0; n < 256; n++) {
+        struct brasspurse_register_answer r = brasspurse_register_x86_64((uint8_t)n);
+
+        IS(r.state, state_of(n));
+        IS(r.number, n);
+        IS(r.dwarf_number, dwarf_numbers[n]);
+    }
+}
+
+/* A second account of a frame-based word's fields. */
+static void fields_of(uint32_t word, uint8_t fields[5])
+{
+    for (int k = 0; k < 5; k++) {
+        fields[k] = (uint8_t)(word % 8);
+        word /= 8;
+    }
+}
+
+/* And of its rule: whether it has one, and then the slots. */
+static bool has_rule(const uint8_t fields[5], unsigned offset, uint16_t below[6])
+{
+    const uint16_t rbp_alone[6] = {[BRASSPURSE_RBP] = 16};
+
+    memcpy(below, rbp_alone, sizeof rbp_alone);
+    for (unsigned k = 0; k < 5; k++) {
+        if (fields[k] == 0)
+            continue;
+        if (fields[k] > 5 || below[fields[k] - 1] != 0 || 8 * k >= offset)
+            return false;
+        below[fields[k] - 1] = (uint16_t)(16 + offset - 8 * k);
+    }
+    return true;
+}
+
+static bool has_fields(uint32_t word, const uint8_t fields[5])
+{
+    struct brasspurse_opcode_x86_64_answer w = brasspurse_parse_x86_64(word);
+    bool right = w.answer == BRASSPURSE_X86_64_FRAME_BASED && w.fields < 0x8000 &&
+                 w.field_states < 0x8000;
+
+    for (unsigned k = 0; k < 5; k++) {
+        right = right && brasspurse_field(w.fields, k) == fields[k];
+        right = right && brasspurse_field(w.field_states, k) == state_of(fields[k]);
+    }
+    for (int i = 0; i < 6; i++)
+        right = right && w.popped_regs[i] == 0;
+    return right;
+}
+
+static bool is_ruled(uint32_t word, const uint8_t fields[5], unsigned offset)
+{
+    const uint16_t absent[6] = {0};
+    struct brasspurse_rule_x86_64_answer r = brasspurse_rule_x86_64(word);
+    uint16_t below[6];
+
+    if (!has_rule(fields, offset, below))
+        return r.refusal == BRASSPURSE_REFUSED_NOT_SOUND && r.value == 0 &&
+               memcmp(r.below, absent, sizeof absent) == 0;
+    return r.refusal == 0 && r.cfa_distance == 16 &&
+           r.cfa_register == BRASSPURSE_CFA_FRAME_POINTER &&
+           memcmp(r.below, below, sizeof below) == 0;
+}
+
+/* All combinations of fields, each at six offsets, and at half of these with all the bits that say
+ * nothing. */
+static void all_fields(void)
+{
+    const uint32_t eighths[6] = {0, 1, 2, 4, 5, 255};
+    uint8_t fields[5];
+
+    for (uint32_t n = 0; n < 32768; n++) {
+        fields_of(n, fields);
+        for (int i = 0; i < 6; i++) {
+            const uint32_t word = (i % 2 ? 0xf1008000 : 0x01000000) | eighths[i] << 16 | n;
+
+            IS(has_fields(word, fields) ? word : 0, word);
+            IS(is_ruled(word, fields, 8 * eighths[i]) ? word : 0, word);
+        }
+    }
+}
+
+/* As many different registers as are counted, then nothing. */
+static bool lists_registers(const uint8_t popped[6], uint32_t count)
+{
+    unsigned met = 0;
+
+    for (uint32_t i = 0; i < 6; i++) {
+        if (i >= count && popped[i] != 0)
+            return false;
+        if (i < count && (popped[i] < 1 || popped[i] > 6 || met >> popped[i] & 1))
+            return false;
+        met |= 1u << popped[i];
+    }
+    return true;
+}
+
+/* A register that is listed has a slot, and no other one has. */
+static bool has_slots(uint32_t word, const uint8_t popped[6])
+{
+    struct brasspurse_rule_x86_64_answer r = brasspurse_rule_x86_64(word);
+    bool right = r.refusal == 0;
+
+    for (int n = 1; n <= 6; n++)
+        right = right && (memchr(popped, n, 6) != NULL) == (r.below[n - 1] != 0);
+    return right;
+}
+
+/* All permutations of both kinds of frameless words. */
+static void all_frameless(void)
+{
+    const uint32_t accepted[8] = {1024, 6, 30, 120, 360, 720, 720, 0};
+
+    for (uint32_t n = 0; n < 8192; n++) {
+        const uint32_t count = n / 1024;
+        const bool is_accepted = n % 1024 < accepted[count];
+
+        for (uint32_t kind = 2; kind <= 3; kind++) {
+            const uint32_t word = kind << 24 | 0x00090000 | n;
+            struct brasspurse_opcode_x86_64_answer w = brasspurse_parse_x86_64(word);
+
+            IS(w.answer, is_accepted ? kind : BRASSPURSE_X86_64_INVALID_FRAMELESS);
+            IS(w.fields, 0);
+            IS(w.field_states, 0);
+            IS(lists_registers(w.popped_regs, is_accepted ? count : 0) ? word : 0, word);
+            if (is_accepted && kind == 2)
+                IS(has_slots(word, w.popped_regs) ? word : 0, word);
+        }
+    }
+}
+
+/* Only frame-based words have fields, only frameless ones a list. */
+static void other_kinds(void)
+{
+    const uint32_t bits[5] = {0, 0x000007, 0x007fff, 0xabcdef, 0xffffff};
+
+    for (uint32_t kind = 0; kind < 16; kind++) {
+        for (int i = 0; i < 5; i++) {
+            struct brasspurse_opcode_x86_64_answer w =
+                brasspurse_parse_x86_64(kind << 24 | bits[i]);
+
+            IS(w.fields, kind == 1 ? bits[i] & 0x7fff : 0);
+            if (kind != 1)
+                IS(w.field_states, 0);
+            if (kind < 2 || kind > 3)
+                IS(lists_registers(w.popped_regs, 0), true);
+        }
+    }
 }
 
 static void lists(void)
@@ -853,6 +1042,9 @@ static void rules(void)
         [BRASSPURSE_D14] = 72, [BRASSPURSE_D15] = 80,
     };
     const uint16_t no_pair[20] = {[BRASSPURSE_X30] = 8, [BRASSPURSE_X29] = 16};
+    const uint16_t rbp[6] = {[BRASSPURSE_RBP] = 16};
+    const uint16_t rbx[6] = {[BRASSPURSE_RBX] = 16};
+    const uint16_t r15[6] = {[BRASSPURSE_R15] = 24, [BRASSPURSE_RBP] = 16};
     const uint16_t nothing[20] = {0};
 
     RULE_X86_64(FIELDS, 0, 0, 16, BRASSPURSE_CFA_FRAME_POINTER, fields);
@@ -862,6 +1054,15 @@ static void rules(void)
     RULE_X86_64(0x09abcdef, BRASSPURSE_REFUSED_UNRECOGNIZED_KIND, 9, 0, 0, nothing);
     RULE_X86_64(0x02001ad0, BRASSPURSE_REFUSED_INVALID_FRAMELESS, 0, 0, 0, nothing);
     RULE_X86_64(0x01000001, BRASSPURSE_REFUSED_NOT_SOUND, 0, 0, 0, nothing);
+    /* Absent fields are no reason, an unknown one is, and so is rbp. */
+    RULE_X86_64(0x01000000, 0, 0, 16, BRASSPURSE_CFA_FRAME_POINTER, rbp);
+    RULE_X86_64(0x01050000 | 5 << 12, 0, 0, 16, BRASSPURSE_CFA_FRAME_POINTER, r15);
+    RULE_X86_64(0x01000007, BRASSPURSE_REFUSED_NOT_SOUND, 0, 0, 0, nothing);
+    RULE_X86_64(0x01050000 | 7 << 12, BRASSPURSE_REFUSED_NOT_SOUND, 0, 0, 0, nothing);
+    RULE_X86_64(0x01050000 | 6 << 12, BRASSPURSE_REFUSED_NOT_SOUND, 0, 0, 0, nothing);
+    RULE_X86_64(0x41ff7fff, BRASSPURSE_REFUSED_NOT_SOUND, 0, 0, 0, nothing);
+    RULE_X86_64(0x02010000, 0, 0, 8, BRASSPURSE_CFA_STACK_POINTER, nothing);
+    RULE_X86_64(0x02020400, 0, 0, 16, BRASSPURSE_CFA_STACK_POINTER, rbx);
     RULE_X86_64(INDIRECT, BRASSPURSE_REFUSED_FRAMELESS_INDIRECT, 0, 0, 0, nothing);
 
     RULE_ARM64(PAIRS, 0, 0, 16, BRASSPURSE_CFA_FRAME_POINTER, pairs);
@@ -884,6 +1085,23 @@ static void rules(void)
         RULE_ARM64(without_pairs[i], 0, 0, 16, BRASSPURSE_CFA_FRAME_POINTER, no_pair);
     /* A frameless word with all pairs: none is read, as the top of the header says. */
     RULE_ARM64(0x02004f1f, 0, 0, 64, BRASSPURSE_CFA_STACK_POINTER, nothing);
+}
+
+/* All frame-based words of arm64: a pair that is marked has two slots, the frame's own registers
+ * have theirs, and nothing else has. */
+static void all_pairs(void)
+{
+    for (uint32_t n = 0; n < 4096; n++) {
+        struct brasspurse_rule_arm64_answer r = brasspurse_rule_arm64(0x04000000 | n);
+        bool has_slot[20] = {[BRASSPURSE_X29] = true, [BRASSPURSE_X30] = true};
+
+        for (int i = 0; i < 9; i++) {
+            has_slot[pairs_alone[i].first] = (n & pairs_alone[i].bit) != 0;
+            has_slot[pairs_alone[i].first + 1] = (n & pairs_alone[i].bit) != 0;
+        }
+        for (int i = 0; i < 20; i++)
+            IS(r.below[i] != 0, has_slot[i]);
+    }
 }
 
 #define IS_STEP_X86_64(answer, number, says, after)                                                \
@@ -920,6 +1138,11 @@ static void steps(void)
                    BRASSPURSE_REFUSED_DWARF, 0xabcdef, x);
     IS_STEP_X86_64(brasspurse_step_x86_64(0x09abcdef, x, 0x7000, fields_frame, 64),
                    BRASSPURSE_REFUSED_UNRECOGNIZED_KIND, 9, x);
+    /* An unknown field, and one that names rbp. */
+    IS_STEP_X86_64(brasspurse_step_x86_64(0x01060007, x, 0x7000, fields_frame, 64),
+                   BRASSPURSE_REFUSED_NOT_SOUND, 0, x);
+    IS_STEP_X86_64(brasspurse_step_x86_64(0x01060006, x, 0x7000, fields_frame, 64),
+                   BRASSPURSE_REFUSED_NOT_SOUND, 0, x);
     IS_STEP_X86_64(brasspurse_step_x86_64(FIELDS, x, UINT64_MAX, fields_frame, 1),
                    BRASSPURSE_REFUSED_ABOVE_ADDRESSES, 0, x);
     IS_STEP_X86_64(brasspurse_step_x86_64(FIELDS, up, 0x7000, fields_frame, 64),
@@ -994,7 +1217,7 @@ static void unwinding(void)
     const struct brasspurse_registers_x86_64 y = x86_64(0x7000, 0x7030);
     const struct brasspurse_registers_arm64 a = arm64(0x7ff0, 0x8090);
     struct brasspurse_registers_x86_64 after = x;
-    uint8_t wrong[sizeof T], arm[sizeof S];
+    uint8_t wrong[sizeof T], unknown[sizeof S], arm[sizeof S];
 
     after.rip = V(30);
     after.rsp = 0x7018;
@@ -1016,6 +1239,10 @@ static void unwinding(void)
                      BRASSPURSE_REFUSED_DWARF, 0xabcdef, 4, x);
     IS_UNWIND_X86_64(brasspurse_unwind_x86_64(T, sizeof T, 0x3700, x, 0x7000, window, 24),
                      BRASSPURSE_REFUSED_UNRECOGNIZED_KIND, 5, 4, x);
+    memcpy(unknown, S, sizeof S);
+    put(unknown, 28, 0x01010007);
+    IS_UNWIND_X86_64(brasspurse_unwind_x86_64(unknown, 80, 0x1010, x, 0x7000, window, 24),
+                     BRASSPURSE_REFUSED_NOT_SOUND, 0, 4, x);
     wrong_index(wrong);
     IS_UNWIND_X86_64(brasspurse_unwind_x86_64(wrong, sizeof T, 0x2700, x, 0x7000, window, 24),
                      BRASSPURSE_REFUSED_LOCAL_INDEX, 0, 4, x);
@@ -1275,6 +1502,10 @@ int main(void)
     reads();
     permutations();
     words();
+    registers();
+    all_fields();
+    all_frameless();
+    other_kinds();
     lists();
     lookups();
     batches();
@@ -1284,6 +1515,7 @@ int main(void)
     places();
     many_places();
     rules();
+    all_pairs();
     steps();
     unwinding();
     nothing_lent();

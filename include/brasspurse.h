@@ -50,9 +50,9 @@ extern "C" {
 #endif
 
 /* This header's version. */
-#define BRASSPURSE_VERSION "0.5.0"
+#define BRASSPURSE_VERSION "0.6.0"
 #define BRASSPURSE_VERSION_MAJOR 0
-#define BRASSPURSE_VERSION_MINOR 5
+#define BRASSPURSE_VERSION_MINOR 6
 #define BRASSPURSE_VERSION_PATCH 0
 
 /* Refusals. 16 to 19 and 29 are not in use. */
@@ -358,9 +358,17 @@ bool brasspurse_is_well_formed(const uint8_t *section, size_t section_len);
 uint8_t brasspurse_opcode_kind(uint32_t word);
 uint32_t brasspurse_opcode_specific_bits(uint32_t word);
 
+/* What a number in an x86_64 word says of a register. */
+enum brasspurse_register_state {
+    BRASSPURSE_REGISTER_ABSENT = 0, /* number 0: no register */
+    BRASSPURSE_REGISTER_NAMED = 1,  /* numbers 1 to 6 */
+    BRASSPURSE_REGISTER_UNKNOWN = 2 /* any other number: no register is known by it */
+};
+
 struct brasspurse_register_answer {
-    uint32_t named;        /* 1, or 0 where the number names no register */
-    uint32_t dwarf_number; /* the register's number in DWARF */
+    uint32_t state;        /* an enum brasspurse_register_state */
+    uint32_t number;       /* the number asked about */
+    uint32_t dwarf_number; /* a register's number in DWARF; else 0 */
 };
 
 /* The x86_64 register that a number in a word names: 1 rbx, 2 r12, 3 r13, 4 r14, 5 r15, 6 rbp. */
@@ -376,16 +384,29 @@ enum brasspurse_word_x86_64 {                  /* value has: */
     BRASSPURSE_X86_64_UNRECOGNIZED_KIND = 6    /* the kind */
 };
 
+/* A frame-based word has five fields. Field k is 0 and absent, or names the register whose slot
+ * lies 8 * k bytes above field 0's, or is 7 and unknown. A word with a field that is unknown or
+ * names rbp is answered here; the calls for rules, steps and unwinding refuse it with 24. */
 struct brasspurse_opcode_x86_64_answer {
     uint32_t value;                /* goes by the answer, see above */
     uint8_t answer;                /* an enum brasspurse_word_x86_64 */
     uint8_t stack_adjust_in_bytes; /* frameless indirect: what to add to the size */
-    uint8_t saved_regs[6];         /* register numbers, 0 for none. Frame-based: place k has field
-                                      k, also where it is 7. Frameless: in the order in which
-                                      they are popped */
+    uint16_t fields;               /* frame-based: the five fields' numbers, field k at bits 3k to
+                                      3k + 2, as the word has them; else 0 */
+    uint16_t field_states;         /* frame-based: at the same bits each field's enum
+                                      brasspurse_register_state; else 0 */
+    uint8_t popped_regs[6];        /* frameless: numbers of registers, 1 to 6, in the order in which
+                                      they are popped, then 0: absent. Never an unknown. All 0 for
+                                      other words */
 };
 
 struct brasspurse_opcode_x86_64_answer brasspurse_parse_x86_64(uint32_t word);
+
+/* Field k's number or state: pass `fields` or `field_states`. k is below 5. */
+static inline uint8_t brasspurse_field(uint16_t fields, unsigned k)
+{
+    return (uint8_t)(fields >> 3 * k & 7);
+}
 
 enum brasspurse_word_arm64 {               /* value has: */
     BRASSPURSE_ARM64_NULL = 0,             /* 0 */
@@ -395,8 +416,8 @@ enum brasspurse_word_arm64 {               /* value has: */
     BRASSPURSE_ARM64_UNRECOGNIZED_KIND = 4 /* the kind */
 };
 
-/* Bits of saved_pairs, which are the word's own, and the masks of Apple's header. Bits 5 to 7 of the
- * word name no pair. */
+/* Bits of saved_pairs, which are the word's own, and the masks of Apple's header. Bits 5 to 7 of
+ * the word name no pair. */
 enum brasspurse_pair_arm64 {
     BRASSPURSE_PAIR_X19_X20 = 0x001,
     BRASSPURSE_PAIR_X21_X22 = 0x002,
@@ -486,7 +507,8 @@ struct brasspurse_rule_x86_64_answer {
     uint32_t value;        /* for 21 DWARF's 24 bits, for 22 the kind */
     uint64_t cfa_distance; /* CFA is the register plus this */
     uint32_t cfa_register; /* an enum brasspurse_cfa_register */
-    uint16_t below[6];     /* how far below CFA the slot of each register begins; 0: it has none */
+    uint16_t below[6];     /* how far below CFA the slot of each register begins; 0 means absent:
+                              the register has no slot */
 };
 
 struct brasspurse_rule_arm64_answer {

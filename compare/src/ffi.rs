@@ -25,23 +25,42 @@ pub struct Encoding {
     pub encoding: u32,
 }
 
+/// States of a number that may name a register of x86_64.
+pub const ABSENT: u32 = 0;
+pub const REGISTER: u32 = 1;
+pub const UNKNOWN: u32 = 2;
+
 #[repr(C)]
 #[derive(Clone, Copy, Debug, Default, PartialEq, Eq)]
 pub struct RegisterName {
-    pub named: u32,
+    pub state: u32,
+    pub number: u32,
     pub dwarf_number: u32,
 }
 
 /// `answer`: 0 null, 1 frame-based, 2 frameless immediate, 3 frameless indirect, 4 DWARF,
 /// 5 invalid frameless, 6 unrecognised kind. `value`: the offset, the size, the immediate's
-/// place, the 24 bits or the kind; 0 where the case has none.
+/// place, the 24 bits or the kind; 0 where the case has none. Field k of a frame-based word is bits
+/// 3k to 3k + 2 of `fields`, and its state the same bits of `field_states`.
 #[repr(C)]
 #[derive(Clone, Copy, Debug, Default, PartialEq, Eq)]
 pub struct OpcodeX86_64 {
     pub value: u32,
     pub answer: u8,
     pub stack_adjust_in_bytes: u8,
-    pub saved_regs: [u8; 6],
+    pub fields: u16,
+    pub field_states: u16,
+    pub popped_regs: [u8; 6],
+}
+
+impl OpcodeX86_64 {
+    /// State and number of each field, field 0 first.
+    pub fn five_fields(&self) -> [(u32, u8); 5] {
+        [0, 3, 6, 9, 12].map(|at| {
+            let (state, number) = (self.field_states >> at & 7, self.fields >> at & 7);
+            (state.into(), number as u8)
+        })
+    }
 }
 
 /// `answer`: 0 null, 1 frameless, 2 DWARF, 3 frame-based, 4 unrecognised kind. `value`: the size,

@@ -11,6 +11,7 @@
 mod bench;
 mod encoder;
 mod ffi;
+mod fields;
 mod frames;
 mod header;
 mod model;
@@ -76,6 +77,7 @@ fn all(report: &mut Report) -> std::io::Result<()> {
     encoder::compare(report);
     words::compare(report);
     registers::compare(report);
+    fields::compare(report);
     reads::compare(report);
     header::compare(report)?;
     frames::compare(report)?;

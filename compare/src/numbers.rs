@@ -89,8 +89,8 @@ fn word(tally: &mut Tally) {
     let lists_rbx_and_r12 = OpcodeX86_64 {
         value: 24,
         answer: 2,
-        stack_adjust_in_bytes: 0,
-        saved_regs: [1, 2, 0, 0, 0, 0],
+        popped_regs: [1, 2, 0, 0, 0, 0],
+        ..OpcodeX86_64::default()
     };
     let parsed = ffi::parse_x86_64(0x0203_0800);
     tally.check(|| "P11".into(), parsed, lists_rbx_and_r12);

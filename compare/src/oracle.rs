@@ -1,11 +1,14 @@
-//! The Rust crate in two releases, its answers put into the C interface's shapes.
+//! The Rust crate in two releases, its answers put into the C interface's shapes, or into those of
+//! `told` where it tells less.
 
 mod checked_0_5_0;
 pub mod release_0_3_0;
 pub mod release_0_5_0;
 pub mod section;
+pub mod told;
 
-use crate::ffi::{Number, OpcodeArm64, OpcodeX86_64, Permutation, RegisterName};
+use crate::ffi::{Number, OpcodeArm64, Permutation};
+use told::{Register, WordX86_64};
 
 /// What one release answers.
 pub struct Release {
@@ -13,8 +16,8 @@ pub struct Release {
     pub decode_permutation_6: fn(u32, u32) -> Permutation,
     pub opcode_kind: fn(u32) -> u8,
     pub opcode_specific_bits: fn(u32) -> u32,
-    pub register_x86_64: fn(u8) -> RegisterName,
-    pub parse_x86_64: fn(u32) -> OpcodeX86_64,
+    pub register_x86_64: fn(u8) -> Option<Register>,
+    pub parse_x86_64: fn(u32) -> WordX86_64,
     pub parse_arm64: fn(u32) -> OpcodeArm64,
     pub read_u16: fn(&[u8], usize) -> Number,
     pub read_u32: fn(&[u8], usize) -> Number,
@@ -26,6 +29,17 @@ pub static RELEASES: [Release; 2] = [release_0_3_0::RELEASE, release_0_5_0::RELE
 
 /// The release whose answers are recorded.
 pub static NEWEST: &Release = &RELEASES[1];
+
+/// An x86_64 word that the Rust doesn't tell from this one: a frame-based one with 0 for each 7.
+pub fn told_alike_x86_64(word: u32) -> u32 {
+    let fields = [0, 3, 6, 9, 12].map(|at| 7 << at);
+    let sevens = fields.iter().filter(|&field| word & field == *field);
+    if word >> 24 & 15 == 1 {
+        word & !sevens.sum::<u32>()
+    } else {
+        word
+    }
+}
 
 /// An arm64 word without what the Rust reads otherwise: bits 5 to 11 of a frame-based one. The Rust
 /// has d pairs at bits 5 to 8; they stand at bits 8 to 11 (docs/FORMAT.md, 7.4).

@@ -12,6 +12,7 @@ pub mod sections;
 mod witness;
 
 use crate::ffi::Permutation;
+use crate::oracle::told::WordX86_64;
 use crate::oracle::{NEWEST, RELEASES};
 use std::fmt::Debug;
 
@@ -53,7 +54,7 @@ fn permutations() -> Vec<Record> {
 fn x86_64_words() -> Vec<Record> {
     let record = |word| {
         let opcode = same(|release| (release.parse_x86_64)(word));
-        let [low, high] = packed(opcode.saved_regs);
+        let [low, high] = packed(registers(&opcode));
         [
             X86_64,
             word,
@@ -84,6 +85,15 @@ fn arm64_words() -> Vec<Record> {
         ]
     };
     inputs::arm64_words().into_iter().map(record).collect()
+}
+
+/// A frame-based word's fields, field 0 first, or a frameless word's list; 0 for `None`.
+fn registers(word: &WordX86_64) -> [u8; 6] {
+    let mut registers = word.popped_regs;
+    for (place, field) in registers.iter_mut().zip(word.fields) {
+        *place = place.or(field);
+    }
+    registers.map(Option::unwrap_or_default)
 }
 
 /// The first four registers, then the last two, lowest byte first.

@@ -91,23 +91,26 @@ pub struct EncodingAnswer {
     pub encoding: u32,
 }
 
-/// `named`: 1, or 0 with 0.
+/// `state`: 0 absent, 1 a register, 2 unknown. `number`: the one asked about.
 #[repr(C)]
 pub struct RegisterAnswer {
-    pub named: u32,
+    pub state: u32,
+    pub number: u32,
     pub dwarf_number: u32,
 }
 
 /// `answer`: 0 null, 1 frame-based, 2 frameless immediate, 3 frameless indirect, 4 DWARF, 5 invalid
 /// frameless, 6 unrecognised kind. `value`: the offset, the size, the immediate's place, the 24
-/// bits or the kind. `saved_regs`: field k of a frame-based word at place k, or a frameless one's
-/// list.
+/// bits or the kind. `fields`: field k of a frame-based word at bits 3k to 3k + 2; `field_states`:
+/// its state there, as in a register's answer. `popped_regs`: a frameless word's list, 1 to 6 or 0.
 #[repr(C)]
 pub struct OpcodeX86_64Answer {
     pub value: u32,
     pub answer: u8,
     pub stack_adjust_in_bytes: u8,
-    pub saved_regs: [u8; 6],
+    pub fields: u16,
+    pub field_states: u16,
+    pub popped_regs: [u8; 6],
 }
 
 /// `answer`: 0 null, 1 frameless, 2 DWARF, 3 frame-based, 4 unrecognised kind. `value`: the size,
@@ -122,7 +125,7 @@ pub struct OpcodeArm64Answer {
 }
 
 /// `refusal`: 0, or its number with its `value` and zeros. `cfa_register`: 0 the stack pointer, 1
-/// the frame pointer. `N` preserved registers.
+/// the frame pointer. `below`: 0 absent, else the slot's distance. `N` preserved registers.
 #[repr(C)]
 pub struct RuleAnswer<const N: usize> {
     pub refusal: u32,
@@ -184,8 +187,8 @@ const _: () = {
     assert!(size_of::<FillAnswer>() == 24);
     assert!(size_of::<PermutationAnswer>() == 12);
     assert!(size_of::<EncodingAnswer>() == 8);
-    assert!(size_of::<RegisterAnswer>() == 8);
-    assert!(size_of::<OpcodeX86_64Answer>() == 12);
+    assert!(size_of::<RegisterAnswer>() == 12);
+    assert!(size_of::<OpcodeX86_64Answer>() == 16);
     assert!(size_of::<OpcodeArm64Answer>() == 8);
     assert!(size_of::<RuleAnswer<6>>() == 32);
     assert!(size_of::<RuleAnswer<20>>() == 64);

@@ -64,6 +64,15 @@ pub enum CfaRegister {
     FramePointer,
 }
 
+/// Where a word says that a register was stored.
+#[derive(Clone, Copy, Debug, PartialEq, Eq, Hash)]
+pub enum Slot {
+    /// Nowhere: the register has no slot.
+    Absent,
+    /// In the slot that begins so many bytes below CFA; they are never 0.
+    BelowCfa(u16),
+}
+
 /// What a word of x86_64 says of its frame. The return address lies 8 below CFA.
 #[derive(Clone, Copy, Debug, PartialEq, Eq, Hash)]
 pub struct RuleX86_64 {
@@ -71,9 +80,8 @@ pub struct RuleX86_64 {
     pub cfa_register: CfaRegister,
     /// CFA is that register and so many bytes.
     pub cfa_distance: u64,
-    /// How far below CFA each register of [`RegistersX86_64::saved`] was stored; 0 where it was
-    /// not.
-    pub below: [u16; 6],
+    /// The slot of each register of [`RegistersX86_64::saved`].
+    pub slots: [Slot; 6],
 }
 
 /// What a word of arm64 says of its frame. The return address is x30: loaded, if it has a slot.
@@ -83,9 +91,8 @@ pub struct RuleArm64 {
     pub cfa_register: CfaRegister,
     /// CFA is that register and so many bytes.
     pub cfa_distance: u64,
-    /// How far below CFA each register of [`RegistersArm64::saved`] was stored; 0 where it was
-    /// not.
-    pub below: [u16; 20],
+    /// The slot of each register of [`RegistersArm64::saved`].
+    pub slots: [Slot; 20],
 }
 
 /// A caller's registers, and the entries that the lookup probed.
@@ -97,7 +104,7 @@ pub struct Unwound<R> {
     pub probes: u32,
 }
 
-/// Places in `saved`, and in a rule's `below`.
+/// Places in `saved`, and in a rule's `slots`.
 impl RegistersX86_64 {
     /// rbx's place.
     pub const RBX: usize = 0;
@@ -113,7 +120,7 @@ impl RegistersX86_64 {
     pub const RBP: usize = 5;
 }
 
-/// Places in `saved`, and in a rule's `below`.
+/// Places in `saved`, and in a rule's `slots`.
 impl RegistersArm64 {
     /// x19's place; x20 to x28 follow.
     pub const X19: usize = 0;
@@ -128,11 +135,11 @@ impl RegistersArm64 {
 impl RuleX86_64 {
     /// The rule of a word; refuses with 20 to 25.
     pub fn parse(opcode: u32) -> Result<Self, Refusal> {
-        let (cfa_register, cfa_distance, below) = ruled(ffi::rule_x86_64(opcode))?;
+        let (cfa_register, cfa_distance, slots) = ruled(ffi::rule_x86_64(opcode))?;
         Ok(RuleX86_64 {
             cfa_register,
             cfa_distance,
-            below,
+            slots,
         })
     }
 }
@@ -141,16 +148,16 @@ impl RuleArm64 {
     /// The rule of a word; refuses with 20 to 22. Real frameless functions that save registers lay
     /// their frames out otherwise: see [the module](self#where-real-code-differs).
     pub fn parse(opcode: u32) -> Result<Self, Refusal> {
-        let (cfa_register, cfa_distance, below) = ruled(ffi::rule_arm64(opcode))?;
+        let (cfa_register, cfa_distance, slots) = ruled(ffi::rule_arm64(opcode))?;
         Ok(RuleArm64 {
             cfa_register,
             cfa_distance,
-            below,
+            slots,
         })
     }
 }
 
-type Ruled<const N: usize> = (CfaRegister, u64, [u16; N]);
+type Ruled<const N: usize> = (CfaRegister, u64, [Slot; N]);
 
 fn ruled<const N: usize>(answer: RuleAnswer<N>) -> Result<Ruled<N>, Refusal> {
     match answer.refusal {
@@ -159,9 +166,16 @@ fn ruled<const N: usize>(answer: RuleAnswer<N>) -> Result<Ruled<N>, Refusal> {
                 0 => CfaRegister::StackPointer,
                 _ => CfaRegister::FramePointer,
             };
-            Ok((register, answer.cfa_distance, answer.below))
+            Ok((register, answer.cfa_distance, answer.below.map(slot)))
         }
         refusal => Err(Refusal::from_number(refusal, answer.value)),
+    }
+}
+
+fn slot(below: u16) -> Slot {
+    match below {
+        0 => Slot::Absent,
+        _ => Slot::BelowCfa(below),
     }
 }
 
@@ -203,6 +217,21 @@ mod tests {
     use super::{RegistersArm64, RegistersX86_64};
     use crate::ffi;
     use crate::inputs::s;
+
+    /// What the types here leave out: the library's slots are all absent.
+    #[test]
+    fn a_refusal_has_no_slot() {
+        for word in [0, 0x0100_0007, 0x0101_0006, 0x0202_0800, 0x0400_0000] {
+            let answer = ffi::rule_x86_64(word);
+            assert_ne!(answer.refusal, 0, "{word:#010x}");
+            assert_eq!(answer.below, [0; 6], "{word:#010x}");
+        }
+        for word in [0, 0x0100_0101, 0x0300_0101] {
+            let answer = ffi::rule_arm64(word);
+            assert_ne!(answer.refusal, 0, "{word:#010x}");
+            assert_eq!(answer.below, [0; 20], "{word:#010x}");
+        }
+    }
 
     /// What the types here leave out: the library hands the registers back as they were.
     #[test]

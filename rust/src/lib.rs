@@ -67,6 +67,8 @@
 //! - Its `match` on [`Error`] that named every variant did not compile: it got arms for
 //!   [`Error::AddressTooLarge`], [`Error::LocalIndex`] and [`Error::WrongVersion`].
 //! - Its pattern that named every field of a [`Function`] did not compile: it got `..`.
+//! - Its loop over the fields of an x86_64 frame-based word did not compile: it got a `match` on
+//!   [`Named`](opcodes::Named), and takes them from the first on, where it took them from the last.
 //! - Its tests of texts failed: those of words and of errors are others.
 //! - Its test that an [`Error::ReadError`] has a [`ReadError`] as `source()` failed: here it has none.
 //!
@@ -76,6 +78,8 @@
 //! |---|---|---|
 //! | the module `raw`: header, pages and entries as they lie in the section, `consts` | missing | [`UnwindInfo::functions`], [`lookup`](UnwindInfo::lookup) and [`address_range`](UnwindInfo::address_range) give what they lead to; for personalities and LSDAs, the original beside this crate, as below |
 //! | `opcodes::OpcodeX86` and `RegisterNameX86`, the 32-bit words | missing | the same: it can parse the `opcode` that a lookup here gave |
+//! | `RegisterNameX86_64::parse` gives an `Option`, `None` for 0 and for a number that names nothing | gives [`Named`](opcodes::Named) | `Named::Register` is its `Some` |
+//! | `saved_regs` of `OpcodeX86_64::FrameBased`: five `Option`s, the highest field first | five [`Named`](opcodes::Named), place k with field k | the places from the last on |
 //! | `Display` of words, as "CFA=reg6+16: reg6=\[CFA-16\]" | another text | [`frames::RuleX86_64`] and [`frames::RuleArm64`] have the distances as numbers |
 //! | `Display` of errors, as "Invalid page kind" | another text, with the refusal's number | the variant, or `number()` |
 //! | `source()` of [`Error::ReadError`], whose text the error's own repeats | none: a text is whole, and a chain says each thing once | the variant |
@@ -106,6 +110,11 @@
 //!   lists d8/d9 in the original and nothing here; 0x04000100 lists d14/d15 in the original and
 //!   d8/d9 here. Where none of bits 5 to 11 is set, they agree; where one is, they agree only if
 //!   bits 5, 8 and 11 are alike, bits 6 and 9, and bits 7 and 10.
+//! - A field of an x86_64 frame-based word that is 7 is
+//!   [`Named::Unknown`](opcodes::Named::Unknown), and one that is 0
+//!   [`Named::Absent`](opcodes::Named::Absent). To the original they are alike: it reads 0x01000007
+//!   as 0x01000000. The fields come in the word's order, the original's from the highest on. The
+//!   registers that they name are the same.
 //!
 //! On all other input `parse`, `address_range`, `lookup`, `functions` and the words' `parse` gave
 //! what the original gives, wherever they were compared (docs/DIFFERENCES.md).
@@ -125,7 +134,10 @@
 //! - [`is_well_formed`] says whether a section has nothing wrong in it.
 //! - [`opcodes::decode_permutation_6`] is public, and [`opcodes::encode_permutation_6`] is its
 //!   inverse.
-//! - [`RegisterNameX86_64`](opcodes::RegisterNameX86_64) has `COUNT` and `dwarf_number`.
+//! - [`RegisterNameX86_64`](opcodes::RegisterNameX86_64) has `COUNT` and `dwarf_number`, and can be
+//!   hashed.
+//! - Absent is told from unknown: [`Named`](opcodes::Named) in words, [`Slot`](frames::Slot) in
+//!   rules.
 //!
 //! Frames that `__eh_frame` describes are not unwound, and symbols not named.
 

@@ -3,7 +3,10 @@
 
 #![forbid(unsafe_code)]
 
-use macho_unwind_info::opcodes::{OpcodeArm64, OpcodeBitfield, OpcodeX86_64, RegisterNameX86_64};
+// Changed: `Named` too.
+use macho_unwind_info::opcodes::{
+    Named, OpcodeArm64, OpcodeBitfield, OpcodeX86_64, RegisterNameX86_64,
+};
 use macho_unwind_info::{Error, Function, ReadError, UnwindInfo};
 use std::collections::HashMap;
 use std::fmt;
@@ -104,8 +107,13 @@ impl Image {
             Machine::X86_64 => match OpcodeX86_64::parse(opcode) {
                 OpcodeX86_64::Null => "none".into(),
                 OpcodeX86_64::FrameBased { saved_regs, .. } => {
-                    let names = saved_regs.iter().rev().flatten();
-                    let names: Vec<&str> = names.map(RegisterNameX86_64::dwarf_name).collect();
+                    // Changed: without `rev()`, and a field is a `Named`.
+                    let names = saved_regs.iter().filter_map(|field| match field {
+                        Named::Absent => None,
+                        Named::Register(name) => Some(name.dwarf_name()),
+                        Named::Unknown(_) => Some("unknown"),
+                    });
+                    let names: Vec<&str> = names.collect();
                     format!("rbp+16 {}", names.join(" "))
                 }
                 OpcodeX86_64::FramelessImmediate {
@@ -219,6 +227,9 @@ fn words_are_recipes() {
     let image = s();
     let word = image.frozen_in(0x1000).unwrap().opcode;
     assert_eq!(image.recipe(word), "rbp+16 reg3");
+    assert_eq!(image.recipe(0x0103_0045), "rbp+16 reg15 reg3");
+    // Changed: it was "rbp+16 reg3".
+    assert_eq!(image.recipe(0x0102_0039), "rbp+16 reg3 unknown");
     assert_eq!(image.recipe(0x0203_0800), "rsp+24 rbx first: true");
     assert_eq!(image.recipe(0x0400_0010), "fde 0x10");
     let arm = Image {

@@ -1,19 +1,22 @@
 //! Frames of the Rust's own decoding: the model lays them out, and reads no bit of the word but
 //! to leave out what the Rust isn't asked about.
 
+use crate::model::frame::named::Named;
 use crate::model::frame::{arm64, x86_64, Frame, Refused};
-use crate::oracle::{is_asked_arm64, Release};
+use crate::oracle::{is_asked_arm64, told_alike_x86_64, Release};
 
-/// None where a field is 7, which the Rust doesn't tell from 0.
+/// None where a 7, which the Rust doesn't tell from 0, is all that keeps a word from being sound.
 pub fn x86_64(release: &Release, word: u32) -> Option<Result<Frame<6>, Refused>> {
     let opcode = (release.parse_x86_64)(word);
     let size = i128::from(opcode.value);
-    let [fields @ .., _] = opcode.saved_regs.map(u32::from);
+    let is_told = told_alike_x86_64(word) == word;
     Some(match opcode.answer {
         0 => Err((20, 0)),
-        1 if has_field_7(word) => return None,
-        1 => x86_64::frame_based(size, fields),
-        2 => x86_64::immediate(size, listed(&opcode.saved_regs)),
+        1 => match x86_64::frame_based(size, opcode.fields.map(field)) {
+            Ok(_) if !is_told => return None,
+            frame => frame,
+        },
+        2 => x86_64::immediate(size, &listed(opcode.popped_regs)),
         3 => Err((25, 0)),
         4 => Err((21, opcode.value)),
         5 => Err((23, 0)),
@@ -21,14 +24,12 @@ pub fn x86_64(release: &Release, word: u32) -> Option<Result<Frame<6>, Refused>>
     })
 }
 
-fn has_field_7(word: u32) -> bool {
-    (0..5).any(|k| word >> (3 * k) & 7 == 7)
+fn field(register: Option<u8>) -> Named {
+    register.map_or(Named::Absent, |number| Named::Register(number.into()))
 }
 
-/// The registers before the zeros that the decoder leaves.
-fn listed(registers: &[u8; 6]) -> &[u8] {
-    let count = registers.iter().position(|&register| register == 0);
-    &registers[..count.unwrap_or(6)]
+fn listed(registers: [Option<u8>; 6]) -> Vec<u8> {
+    registers.into_iter().flatten().collect()
 }
 
 /// None where the Rust reads pairs from other bits.

@@ -2,7 +2,7 @@
 
 use super::constants::Constants;
 use super::{field, input, modes, words, Field, Mode};
-use crate::ffi::{self, OpcodeX86_64};
+use crate::ffi::{self, OpcodeX86_64, ABSENT, REGISTER};
 use crate::tally::{Report, Tally};
 
 const MASK: &str = "UNWIND_X86_64_MODE_MASK";
@@ -26,7 +26,7 @@ const FIELDS: [Field<OpcodeX86_64>; 6] = [
         "UNWIND_X86_64_RBP_FRAME_REGISTERS",
         RBP_FRAME,
         1,
-        five_fields,
+        |opcode| opcode.fields.into(),
     ),
     ("UNWIND_X86_64_RBP_FRAME_OFFSET", RBP_FRAME, 8, |opcode| {
         opcode.value
@@ -110,7 +110,7 @@ fn permutations(constants: &Constants) -> Tally {
             let decoded = ffi::decode_permutation_6(field(word, count), field(word, permutation));
             tally.check(
                 || input(mode, word),
-                (opcode.answer == REFUSED, opcode.saved_regs),
+                (opcode.answer == REFUSED, opcode.popped_regs),
                 (decoded.refusal != 0, decoded.registers),
             );
         });
@@ -121,23 +121,17 @@ fn permutations(constants: &Constants) -> Tally {
 fn registers(constants: &Constants) -> Tally {
     let mut tally = Tally::new("header, x86_64 registers");
     for (name, dwarf_number) in REGISTERS {
-        let ours = ffi::register_x86_64(constants.get(name) as u8);
-        let named = u32::from(dwarf_number != 0);
+        let number = constants.get(name);
+        let is_register = dwarf_number != 0;
         tally.check(
             || name.to_string(),
-            ours,
+            ffi::register_x86_64(number as u8),
             ffi::RegisterName {
-                named,
+                state: if is_register { REGISTER } else { ABSENT },
+                number,
                 dwarf_number,
             },
         );
     }
     tally
-}
-
-/// The five fields put together again, the first lowest.
-fn five_fields(opcode: &OpcodeX86_64) -> u32 {
-    (0..5)
-        .map(|k| u32::from(opcode.saved_regs[k]) << (3 * k))
-        .sum()
 }

@@ -2,7 +2,9 @@
 
 pub mod arm64;
 pub mod arrangements;
+pub mod named;
 pub mod prologue;
+pub mod word;
 pub mod x86_64;
 
 use crate::ffi::frame::{Registers, Rule, Step, Window};

@@ -1,6 +1,7 @@
 // Stands in the module of each release, after its `macho`, `permutation`, `reader` and `NAME`:
 // the two releases' types have the same names but are not the same.
 
+use super::told::{Register, WordX86_64};
 use super::Release;
 use crate::ffi;
 use macho::opcodes::{OpcodeArm64, OpcodeBitfield, OpcodeX86_64, RegisterNameX86_64};
@@ -58,60 +59,53 @@ fn decode_permutation_6(count: u32, encoding: u32) -> ffi::Permutation {
 }
 
 /// The number in the name: "reg3" gives 3.
-fn register_x86_64(n: u8) -> ffi::RegisterName {
-    match RegisterNameX86_64::parse(n) {
-        Some(register) => {
-            let digits = register.dwarf_name().strip_prefix("reg").unwrap();
-            ffi::RegisterName {
-                named: 1,
-                dwarf_number: digits.parse().unwrap(),
-            }
-        }
-        None => ffi::RegisterName::default(),
-    }
+fn register_x86_64(n: u8) -> Option<Register> {
+    let register = RegisterNameX86_64::parse(n)?;
+    let digits = register.dwarf_name().strip_prefix("reg").unwrap();
+    Some((number_of(register).into(), digits.parse().unwrap()))
 }
 
-fn parse_x86_64(word: u32) -> ffi::OpcodeX86_64 {
-    let none = ffi::OpcodeX86_64::default();
+fn parse_x86_64(word: u32) -> WordX86_64 {
+    let none = WordX86_64::default();
     match OpcodeX86_64::parse(word) {
-        OpcodeX86_64::Null => ffi::OpcodeX86_64 { answer: 0, ..none },
+        OpcodeX86_64::Null => WordX86_64 { answer: 0, ..none },
         OpcodeX86_64::FrameBased {
             stack_offset_in_bytes,
             saved_regs: [r0, r1, r2, r3, r4],
-        } => ffi::OpcodeX86_64 {
+        } => WordX86_64 {
             answer: 1,
             value: stack_offset_in_bytes.into(),
             // The Rust lists the word's highest field first.
-            saved_regs: [r4, r3, r2, r1, r0, None].map(register_number),
+            fields: numbers([r4, r3, r2, r1, r0]),
             ..none
         },
         OpcodeX86_64::FramelessImmediate {
             stack_size_in_bytes,
             saved_regs,
-        } => ffi::OpcodeX86_64 {
+        } => WordX86_64 {
             answer: 2,
             value: stack_size_in_bytes.into(),
-            saved_regs: saved_regs.map(register_number),
+            popped_regs: numbers(saved_regs),
             ..none
         },
         OpcodeX86_64::FramelessIndirect {
             immediate_offset_from_function_start,
             stack_adjust_in_bytes,
             saved_regs,
-        } => ffi::OpcodeX86_64 {
+        } => WordX86_64 {
             answer: 3,
             value: immediate_offset_from_function_start.into(),
             stack_adjust_in_bytes,
-            saved_regs: saved_regs.map(register_number),
+            popped_regs: numbers(saved_regs),
             ..none
         },
-        OpcodeX86_64::Dwarf { eh_frame_fde } => ffi::OpcodeX86_64 {
+        OpcodeX86_64::Dwarf { eh_frame_fde } => WordX86_64 {
             answer: 4,
             value: eh_frame_fde,
             ..none
         },
-        OpcodeX86_64::InvalidFrameless => ffi::OpcodeX86_64 { answer: 5, ..none },
-        OpcodeX86_64::UnrecognizedKind(kind) => ffi::OpcodeX86_64 {
+        OpcodeX86_64::InvalidFrameless => WordX86_64 { answer: 5, ..none },
+        OpcodeX86_64::UnrecognizedKind(kind) => WordX86_64 {
             answer: 6,
             value: kind.into(),
             ..none
@@ -119,15 +113,18 @@ fn parse_x86_64(word: u32) -> ffi::OpcodeX86_64 {
     }
 }
 
-fn register_number(register: Option<RegisterNameX86_64>) -> u8 {
+fn numbers<const N: usize>(registers: [Option<RegisterNameX86_64>; N]) -> [Option<u8>; N] {
+    registers.map(|register| register.map(number_of))
+}
+
+fn number_of(register: RegisterNameX86_64) -> u8 {
     match register {
-        None => 0,
-        Some(RegisterNameX86_64::Rbx) => 1,
-        Some(RegisterNameX86_64::R12) => 2,
-        Some(RegisterNameX86_64::R13) => 3,
-        Some(RegisterNameX86_64::R14) => 4,
-        Some(RegisterNameX86_64::R15) => 5,
-        Some(RegisterNameX86_64::Rbp) => 6,
+        RegisterNameX86_64::Rbx => 1,
+        RegisterNameX86_64::R12 => 2,
+        RegisterNameX86_64::R13 => 3,
+        RegisterNameX86_64::R14 => 4,
+        RegisterNameX86_64::R15 => 5,
+        RegisterNameX86_64::Rbp => 6,
     }
 }
 

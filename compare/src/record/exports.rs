@@ -1,4 +1,5 @@
-//! Answers of the exports that no other replay calls, as a program's input and output.
+//! Answers of the exports that no other replay calls, or not for all that they tell, as a program's
+//! input and output.
 //!
 //! The input has the place of the first record, the sections' bytes, and then the records: a tag,
 //! the section's place and length, the number of bytes that the call takes, all little-endian

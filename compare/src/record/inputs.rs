@@ -44,23 +44,12 @@ pub fn x86_64_words() -> Vec<u32> {
     for word in frameless_bounds(&mut random) {
         words.add(word);
     }
-    let mut draw = || match random.below(8) {
+    words.fill(X86_64_WORDS, || match random.below(8) {
         0 => random.next(),
         1 | 2 => of_kind(random.next(), 1),
         3 => of_kind(random.next(), 4),
         n => accepted_frameless(&mut random, 2 + n % 2),
-    };
-    words.fill(X86_64_WORDS, || loop {
-        let word = draw();
-        if !has_field_7(word) {
-            return word;
-        }
     })
-}
-
-/// The Rust doesn't tell 7 from 0 in a frame-based word.
-fn has_field_7(word: u32) -> bool {
-    word >> 24 & 15 == 1 && (0..5).any(|k| word >> (3 * k) & 7 == 7)
 }
 
 /// Both frameless kinds with each count, at the ends and around the bound of its permutations.

@@ -6,7 +6,6 @@ use mathlib.Core.Path.{_≡_, refl}
 use mathlib.Core.Bool.{true, false}
 use mathlib.Core.List.{List, [], _∷_, map}
 use Rattle.reader.specs.Reader as reader
-use Rattle.raw.specs.declared.Lists.{Lists}
 use Rattle.raw.specs.Checked.{good, refused}
 use Rattle.entries.specs.declared.Origin.{Origin}
 use Rattle.entries.specs.declared.Function.{Function}
@@ -28,19 +27,18 @@ use Rattle.brasspurse.specs.declared.permutations.PermutationAnswer.{Per
 use Rattle.brasspurse.specs.declared.permutations.EncodingAnswer.{EncodingAnswer}
 use Rattle.brasspurse.specs.declared.words.RegisterAnswer.{RegisterAnswer}
 use Rattle.brasspurse.specs.declared.words.«OpcodeX86_64Answer».{«OpcodeX86_64Answer»}
-use Rattle.brasspurse.specs.declared.words.«OpcodeArm64Answer».{«OpcodeArm64Answer»}
+use Rattle.opcodes.specs.declared.words_arm64.«WordArm64».{«WordArm64»}
 use Rattle.brasspurse.specs.declared.sections.ParseAnswer.{ParseAnswer}
 use Rattle.brasspurse.specs.declared.sections.RangeAnswer.{RangeAnswer}
 use Rattle.brasspurse.specs.declared.sections.LookupAnswer.{LookupAnswer}
 use Rattle.brasspurse.specs.declared.sections.NextAnswer.{NextAnswer}
-use Rattle.brasspurse.specs.declared.sections.FillAnswer.{FillAnswer}
 use Rattle.brasspurse.specs.declared.frames.«RuleX86_64Answer».{«RuleX86_64Answer»}
 use Rattle.brasspurse.specs.declared.frames.«RuleArm64Answer».{«RuleArm64Answer»}
 use Rattle.brasspurse.specs.declared.frames.«StepX86_64Answer».{«StepX86_64Answer»}
 use Rattle.brasspurse.specs.declared.frames.«StepArm64Answer».{«StepArm64Answer»}
 use Rattle.brasspurse.specs.declared.unwind.«UnwindX86_64Answer».{«UnwindX86_64Answer»}
 use Rattle.brasspurse.specs.declared.unwind.«UnwindArm64Answer».{«UnwindArm64Answer»}
-use Rattle.brasspurse.specs.Flat.{readAnswer, permutationAnswer, encodingAnswer, registerAnswer, x86Answer, arm64Answer}
+use Rattle.brasspurse.specs.Flat.{readAnswer, permutationAnswer, encodingAnswer, registerAnswer, x86Answer}
 use Rattle.brasspurse.specs.Sections.{parseAnswer, rangeAnswer, lookupAnswer, nextAnswer, FillOutcome, filledOutcome, fillAnswer}
 use Rattle.brasspurse.specs.Frames.{registerNumber, ruleX86Answer, ruleArm64Answer, stepX86Answer, stepArm64Answer}
 use Rattle.brasspurse.specs.Unwinds.{unwindX86Answer, unwindArm64Answer}
@@ -51,7 +49,7 @@ pub data Flat : Type 0 where
   encoding : EncodingAnswer → Flat
   named : RegisterAnswer → Flat
   word-x86-64 : «OpcodeX86_64Answer» → Flat
-  word-arm64 : «OpcodeArm64Answer» → Flat
+  word-arm64 : «WordArm64» → Flat
   lists : ParseAnswer → Flat
   range : RangeAnswer → Flat
   lookup : LookupAnswer → Flat
@@ -95,10 +93,14 @@ abbrev filled : filling.Why → filling.Outcome
 filled w = record { functions = 0x11; next = cursor 0x12 0x13; why = w; list = 0x14 ∷ [] }
 
 abbrev says : x86.Word → Flat
-says w = word-x86-64 (x86Answer (record { word = w; saved = saved }))
+says w = word-x86-64 (x86Answer (x86.numbersOf (record { word = w; saved = saved })))
 
-abbrev x86-64 : (answer value adjust : ℕ) → Flat
-x86-64 a v d = word-x86-64 (record { value = v; answer = a; «stack_adjust_in_bytes» = d; «saved_regs» = saved })
+abbrev x86-64 : (answer value adjust fields states : ℕ) → Flat
+x86-64 a v d fs ss =
+    word-x86-64 (record { value = v; answer = a; «stack_adjust_in_bytes» = d; fields = fs; «field_states» = ss; «popped_regs» = saved })
+
+abbrev says-arm64 : arm64.Word → Flat
+says-arm64 w = word-arm64 (arm64.inNumbers w)
 
 abbrev on-arm64 : (answer value count pairs : ℕ) → Flat
 on-arm64 a v n ps = word-arm64 (record { value = v; answer = a; «saved_reg_pair_count» = n; «saved_pairs» = ps })
@@ -111,21 +113,26 @@ rows =
     ∷ (permutation (permutationAnswer (permuted.Told.refused 23 saved)), permutation (record { refusal = 23; registers = saved }))
     ∷ (encoding (encodingAnswer (permuted.encoding 0x11)), encoding (record { refusal = 0; encoding = 0x11 }))
     ∷ (encoding (encodingAnswer (permuted.Written.refused 28)), encoding (record { refusal = 28; encoding = 0 }))
-    ∷ (named (registerAnswer (registers.register 2)), named (record { named = 1; «dwarf_number» = 12 }))
-    ∷ (named (registerAnswer registers.none), named (record { named = 0; «dwarf_number» = 0 }))
-    ∷ (says x86.null, x86-64 0 0 0)
-    ∷ (says (x86.frameBased 0x11), x86-64 1 0x11 0)
-    ∷ (says (x86.framelessImmediate 0x11), x86-64 2 0x11 0)
-    ∷ (says (x86.framelessIndirect 0x11 0x12), x86-64 3 0x11 0x12)
-    ∷ (says (x86.dwarf 0x11), x86-64 4 0x11 0)
-    ∷ (says x86.invalidFrameless, x86-64 5 0 0)
-    ∷ (says (x86.unrecognized 0x11), x86-64 6 0x11 0)
-    ∷ (word-arm64 (arm64Answer arm64.null), on-arm64 0 0 0 0)
-    ∷ (word-arm64 (arm64Answer (arm64.frameless 0x11)), on-arm64 1 0x11 0 0)
-    ∷ (word-arm64 (arm64Answer (arm64.dwarf 0x11)), on-arm64 2 0x11 0 0)
+    ∷ (named (registerAnswer registers.absent), named (record { state = 0; number = 0; «dwarf_number» = 0 }))
+    ∷ (named (registerAnswer (registers.register 2)), named (record { state = 1; number = 2; «dwarf_number» = 12 }))
+    ∷ (named (registerAnswer (registers.unknown 7)), named (record { state = 2; number = 7; «dwarf_number» = 0 }))
+    ∷ (says x86.null, x86-64 0 0 0 0 0)
+    -- fields 4 to 0 are 7, 1, 6, 0 and 7; all of them 0; each of the eight numbers
+    ∷ (says (x86.frameBased 0x11 0o71607), x86-64 1 0x11 0 0o71607 0o21102)
+    ∷ (says (x86.frameBased 0x11 0), x86-64 1 0x11 0 0 0)
+    ∷ (says (x86.frameBased 0x11 0o32107), x86-64 1 0x11 0 0o32107 0o11102)
+    ∷ (says (x86.frameBased 0x11 0o76540), x86-64 1 0x11 0 0o76540 0o21110)
+    ∷ (says (x86.framelessImmediate 0x11), x86-64 2 0x11 0 0 0)
+    ∷ (says (x86.framelessIndirect 0x11 0x12), x86-64 3 0x11 0x12 0 0)
+    ∷ (says (x86.dwarf 0x11), x86-64 4 0x11 0 0 0)
+    ∷ (says x86.invalidFrameless, x86-64 5 0 0 0 0)
+    ∷ (says (x86.unrecognized 0x11), x86-64 6 0x11 0 0 0)
+    ∷ (says-arm64 arm64.null, on-arm64 0 0 0 0)
+    ∷ (says-arm64 (arm64.frameless 0x11), on-arm64 1 0x11 0 0)
+    ∷ (says-arm64 (arm64.dwarf 0x11), on-arm64 2 0x11 0 0)
     -- x19/x20, x21/x22, x25/x26, d8/d9 and d14/d15 are bits 0, 1, 3, 8 and 11
-    ∷ (word-arm64 (arm64Answer (arm64.frameBased 5 (true ∷ true ∷ false ∷ true ∷ false ∷ true ∷ false ∷ false ∷ true ∷ []))), on-arm64 3 0 5 0x90b)
-    ∷ (word-arm64 (arm64Answer (arm64.unrecognized 0x11)), on-arm64 4 0x11 0 0)
+    ∷ (says-arm64 (arm64.frameBased 5 (true ∷ true ∷ false ∷ true ∷ false ∷ true ∷ false ∷ false ∷ true ∷ [])), on-arm64 3 0 5 0x90b)
+    ∷ (says-arm64 (arm64.unrecognized 0x11), on-arm64 4 0x11 0 0)
     ∷ (
       lists (parseAnswer (good (record { «global_opcodes_offset» = 0x11; «global_opcodes_len» = 0x12; «pages_offset» = 0x13; «pages_len» = 0x14 }))),
       lists (record { refusal = 0; «global_opcodes_offset» = 0x11; «global_opcodes_len» = 0x12; «pages_offset» = 0x13; «pages_len» = 0x14 }),
@@ -169,5 +176,5 @@ rows =
     ∷ []
 
 pub told-in-numbers : map (λ (r : Flat × Flat). r .0) rows ≡ map (λ (r : Flat × Flat). r .1) rows
-unfolding permutationAnswer encodingAnswer registerAnswer
+unfolding permutationAnswer encodingAnswer
 told-in-numbers = refl

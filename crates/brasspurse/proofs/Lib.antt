@@ -1,7 +1,6 @@
 pub mod Flattened
 pub mod Refusals
-pub mod FlatWords
-pub mod SavedPairs
+pub mod FieldStates
 pub mod FlatFrames
 pub mod FlatUnwinds
 pub mod Batched

@@ -1,21 +1,17 @@
 -- What the definitions of docs/FORMAT.md, 1.2, 7 and 8, tell, as the flat structs of include/brasspurse.h: the case as a number, then the case's
--- values, 0 where it has none.
+-- values, 0 where it has none. (Words are told in numbers by `opcodes`.)
 -- Assumes nothing.
-use Prim.Native.Nat.{ℕ, pred, _+_, _*_}
-use mathlib.Core.Bool.{Bool, false, cond}
-use mathlib.Core.List.{List, [], _∷_, _++_}
-use lib.ListN.{getD, take, drop}
+use Prim.Native.Nat.{ℕ, zero, suc, pred, _+_, _*_, _/_, _%_}
+use lib.ListN.{getD}
 use Rattle.reader.specs.Reader as reader
 use Rattle.permutation.specs.Permutation as permutation
 use Rattle.opcodes.specs.Registers as registers
-use Rattle.opcodes.specs.WordsX86 as x86
-use Rattle.opcodes.specs.WordsArm64 as arm
+use Rattle.opcodes.specs.declared.words_x86_64.«WordX86_64».{«WordX86_64»}
 use Rattle.brasspurse.specs.declared.reads.ReadAnswer.{ReadAnswer}
 use Rattle.brasspurse.specs.declared.permutations.PermutationAnswer.{PermutationAnswer}
 use Rattle.brasspurse.specs.declared.permutations.EncodingAnswer.{EncodingAnswer}
 use Rattle.brasspurse.specs.declared.words.RegisterAnswer.{RegisterAnswer}
 use Rattle.brasspurse.specs.declared.words.«OpcodeX86_64Answer».{«OpcodeX86_64Answer»}
-use Rattle.brasspurse.specs.declared.words.«OpcodeArm64Answer».{«OpcodeArm64Answer»}
 
 abbrev pub readAnswer : reader.Told → ReadAnswer
 readAnswer (reader.value x) = record { granted = 1; value = x }
@@ -29,42 +25,21 @@ unfoldable pub encodingAnswer : permutation.Written → EncodingAnswer
 encodingAnswer (permutation.encoding e) = record { refusal = 0; encoding = e }
 encodingAnswer (permutation.Written.refused k) = record { refusal = k; encoding = 0 }
 
-unfoldable pub registerAnswer : registers.Told → RegisterAnswer
-registerAnswer (registers.register n) = record { named = 1; «dwarf_number» = getD registers.dwarfs (pred n) 0 }
-registerAnswer registers.none = record { named = 0; «dwarf_number» = 0 }
+-- DWARF's number of a register; what is none has none
+abbrev pub dwarfTold : registers.Told → ℕ
+dwarfTold registers.absent = 0
+dwarfTold (registers.register n) = getD registers.dwarfs (pred n) 0
+dwarfTold (registers.unknown n) = 0
 
-abbrev pub x86Case : ℕ → ℕ → ℕ → List ℕ → «OpcodeX86_64Answer»
-x86Case answer value adjust saved =
-    record { value = value; answer = answer; «stack_adjust_in_bytes» = adjust; «saved_regs» = saved }
+abbrev pub registerAnswer : registers.Told → RegisterAnswer
+registerAnswer t = record { state = registers.stateOf t; number = registers.valueOf t; «dwarf_number» = dwarfTold t }
 
-abbrev pub x86Word : x86.Word → List ℕ → «OpcodeX86_64Answer»
-x86Word x86.null saved = x86Case 0 0 0 saved
-x86Word (x86.frameBased offset) saved = x86Case 1 offset 0 saved
-x86Word (x86.framelessImmediate size) saved = x86Case 2 size 0 saved
-x86Word (x86.framelessIndirect place adjust) saved = x86Case 3 place adjust saved
-x86Word (x86.dwarf low24) saved = x86Case 4 low24 0 saved
-x86Word x86.invalidFrameless saved = x86Case 5 0 0 saved
-x86Word (x86.unrecognized kind) saved = x86Case 6 kind 0 saved
+-- The states of n fields, each at the field's own three bits.
+abbrev pub statesFrom : ℕ → ℕ → ℕ
+statesFrom zero f = 0
+statesFrom (suc n) f = statesFrom n (f / 8) * 8 + registers.stateOf (registers.namedOf (f % 8))
 
-abbrev pub x86Answer : x86.Told → «OpcodeX86_64Answer»
-x86Answer t = x86Word (t .word) (t .saved)
-
--- a list of bits as a number, the first lowest
-abbrev pub number : List Bool → ℕ
-number [] = 0
-number (b ∷ bs) = cond b 1 0 + 2 * number bs
-
--- The nine pairs as a word has them: five bits, three that name no pair, four bits.
-abbrev pub inPlace : List Bool → List Bool
-inPlace pairs = take 5 pairs ++ false ∷ false ∷ false ∷ drop 5 pairs
-
-abbrev pub arm64Case : ℕ → ℕ → ℕ → List Bool → «OpcodeArm64Answer»
-arm64Case answer value count saved =
-    record { value = value; answer = answer; «saved_reg_pair_count» = count; «saved_pairs» = number saved }
-
-abbrev pub arm64Answer : arm.Word → «OpcodeArm64Answer»
-arm64Answer arm.null = arm64Case 0 0 0 []
-arm64Answer (arm.frameless size) = arm64Case 1 size 0 []
-arm64Answer (arm.dwarf low24) = arm64Case 2 low24 0 []
-arm64Answer (arm.frameBased count pairs) = arm64Case 3 0 count (inPlace pairs)
-arm64Answer (arm.unrecognized kind) = arm64Case 4 kind 0 []
+-- A word in numbers, with the states of its five fields.
+abbrev pub x86Answer : «WordX86_64» → «OpcodeX86_64Answer»
+x86Answer n =
+    record { value = n .value; answer = n .answer; «stack_adjust_in_bytes» = n .«stack_adjust_in_bytes»; fields = n .fields; «field_states» = statesFrom 5 (n .fields); «popped_regs» = n .«saved_regs» }

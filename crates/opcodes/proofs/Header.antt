@@ -4,14 +4,17 @@ use Prim.Native.Nat.{ℕ, _+_, _-_, _*_, _/_, _%_, _^_}
 use mathlib.Core.Path.{_≡_, refl, ap, sym, _∙_}
 use mathlib.Core.Bool.{Bool, true, false, cond}
 use mathlib.Core.List.{List, [], _∷_, map}
+use native.Mathlib.Nat.{div-one}
 use lib.Dec.{eqb}
 use lib.Bits.{bitAnd, and-mask, and-high}
-use lib.Pow.{shl-shr, field, mod-mod-pow}
+use lib.Pow.{shl-shr}
 use borrow.Author.Tests.{eqb-true, eqb-false, eq-eqb, ne-eqb}
 use Rattle.permutation.specs.Permutation.{decodeOf}
 use Rattle.opcodes.specs.Bits.{bits}
+use Rattle.opcodes.specs.Registers.{fieldOf}
 use Rattle.opcodes.specs.WordsX86 as x86
 use Rattle.opcodes.specs.WordsArm64 as arm64
+use Rattle.opcodes.proofs.Fields.{within}
 
 -- the bits from `low` on, `width` of them
 abbrev pub maskOf : ℕ → ℕ → ℕ
@@ -38,19 +41,21 @@ compared low width y word = ap (λ (x : ℕ). eqb x (y * 2 ^ low)) (and-high wor
 
 -- an entry of 3 bits under a mask of m + 3 + k
 entry : (m k word : ℕ) → bitAnd word (2 ^ (m + 3 + k) - 1) / 2 ^ k % 8 ≡ bits k 3 word
-entry m k word =
-    ap (λ (x : ℕ). x / 2 ^ k % 8) (and-mask word (m + 3 + k)) ∙ ap (λ (x : ℕ). x % 8) (field word (m + 3) k) ∙ mod-mod-pow (word / 2 ^ k) m 3
+entry m k word = ap (λ (x : ℕ). x / 2 ^ k % 8) (and-mask word (m + 3 + k)) ∙ within m k word
 
 -- x86_64.
 
 abbrev pub modeX86 : ℕ → ℕ
 modeX86 w = bitAnd w 0x0F000000  -- UNWIND_X86_64_MODE_MASK
 
--- five entries of 3 bits, and a 0
+abbrev pub registersX86 : ℕ → ℕ
+registersX86 w = bitAnd w 0x00007FFF  -- UNWIND_X86_64_RBP_FRAME_REGISTERS
+
+-- five entries of 3 bits
 abbrev pub entriesX86 : ℕ → List ℕ
 entriesX86 w =
-    let registers : ℕ = bitAnd w 0x00007FFF in  -- UNWIND_X86_64_RBP_FRAME_REGISTERS
-    registers / 8 ^ 0 % 8 ∷ registers / 8 ^ 1 % 8 ∷ registers / 8 ^ 2 % 8 ∷ registers / 8 ^ 3 % 8 ∷ registers / 8 ^ 4 % 8 ∷ 0 ∷ []
+    let r : ℕ = registersX86 w in
+    r / 8 ^ 0 % 8 ∷ r / 8 ^ 1 % 8 ∷ r / 8 ^ 2 % 8 ∷ r / 8 ^ 3 % 8 ∷ r / 8 ^ 4 % 8 ∷ []
 
 abbrev pub framelessX86 : x86.Word → ℕ → x86.Told
 framelessX86 x w =
@@ -62,7 +67,7 @@ abbrev pub headerX86 : ℕ → x86.Told
 headerX86 w =
     cond (eqb (modeX86 w) 0) (x86.alone x86.null)
     -- UNWIND_X86_64_MODE_RBP_FRAME, UNWIND_X86_64_RBP_FRAME_OFFSET
-    (cond (eqb (modeX86 w) 0x01000000) (record { word = x86.frameBased (8 * under 0x00FF0000 16 w); saved = entriesX86 w })
+    (cond (eqb (modeX86 w) 0x01000000) (x86.alone (x86.frameBased (8 * under 0x00FF0000 16 w) (registersX86 w)))
     -- UNWIND_X86_64_MODE_STACK_IMMD, UNWIND_X86_64_FRAMELESS_STACK_SIZE
     (cond (eqb (modeX86 w) 0x02000000) (framelessX86 (x86.framelessImmediate (8 * under 0x00FF0000 16 w)) w)
     -- UNWIND_X86_64_MODE_STACK_IND, UNWIND_X86_64_FRAMELESS_STACK_SIZE, UNWIND_X86_64_FRAMELESS_STACK_ADJUST
@@ -70,6 +75,9 @@ headerX86 w =
     -- UNWIND_X86_64_MODE_DWARF, UNWIND_X86_64_DWARF_SECTION_OFFSET
     (cond (eqb (modeX86 w) 0x04000000) (x86.alone (x86.dwarf (under 0x00FFFFFF 0 w)))
     (x86.alone (x86.unrecognized (under 0x0F000000 24 w)))))))
+
+low-fifteen : (w : ℕ) → registersX86 w ≡ bits 0 15 w
+low-fifteen w = and-mask w 15 ∙ ap (λ (x : ℕ). x % 2 ^ 15) (sym (div-one w))
 
 pub x86-by-header : (w : ℕ) → headerX86 w ≡ x86.parseOf w
 unfolding x86.parseOf
@@ -86,12 +94,12 @@ x86-by-header w =
       masked 10 3 w,
       masked 0 10 w,
       masked 0 24 w,
-      entry 12 0 w,
-      entry 9 3 w,
-      entry 6 6 w,
-      entry 3 9 w,
-      entry 0 12 w,
+      low-fifteen w,
     )
+
+-- and the entries are the word's fields
+pub x86-entries : (w : ℕ) → entriesX86 w ≡ fieldOf 0 w ∷ fieldOf 1 w ∷ fieldOf 2 w ∷ fieldOf 3 w ∷ fieldOf 4 w ∷ []
+x86-entries w = simp (entry 12 0 w, entry 9 3 w, entry 6 6 w, entry 3 9 w, entry 0 12 w)
 
 -- arm64.
 

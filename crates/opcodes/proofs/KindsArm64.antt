@@ -2,18 +2,15 @@
 -- Assumes nothing.
 use Prim.Native.Nat.{ℕ, _+_, _*_, _/_, _%_, _^_, _<_}
 use mathlib.Core.Path.{_≡_, refl, ap, sym, _∙_}
-use mathlib.Core.List.{_∷_}
 use native.Mathlib.Nat.{div-one, mod-lt, div-add-mod'}
 use lib.Bits.{bitAnd, and-block, and-mask}
 use lib.Pow.{mod-mod-pow}
 use native.Mathlib.Omega.{arith}
-use lib.Dec.{eqb}
 use lib.Count.{ones-cat}
 use lib.Count as count
-use lib.ListN.{drop}
 use borrow.Author.Tests.{ne-eqb}
 use Rattle.opcodes.specs.Bits.{bits, kindOf}
-use Rattle.opcodes.specs.WordsArm64.{dwarf, frameBased, unrecognized, pairs, ones, byKind, parseOf}
+use Rattle.opcodes.specs.WordsArm64.{unrecognized, pairs, ones, byKind, parseOf}
 use Rattle.opcodes.proofs.FieldBits.{counted}
 
 pub of-kind : (k w : ℕ) → kindOf w ≡ k → parseOf w ≡ byKind k w
@@ -36,11 +33,3 @@ pairs-counted w =
     let below-32 : bits 0 5 w < 2 ^ 5 = mod-lt (w / 2 ^ 0) (omega arith) in
     ap count.ones (under-mask w) ∙ ones-cat 8 (bits 8 4 w) (bits 0 5 w) (omega (arith, below-32))
     ∙ rw (counted 4 8 w, counted 5 0 w) (omega arith)
-
--- a frame-based word, bit 0 as the code reads it
-pub frame-based : (w n : ℕ) → kindOf w ≡ 4 → n ≡ ones (pairs w) → frameBased n (eqb (w % 2) 1 ∷ drop 1 (pairs w)) ≡ parseOf w
-frame-based w n e p =
-    ap (λ (x : ℕ). frameBased n (eqb (x % 2) 1 ∷ drop 1 (pairs w))) (sym (div-one w)) ∙ ap (λ (k : ℕ). frameBased k (pairs w)) p ∙ sym (of-kind 4 w e)
-
-pub dwarf-word : (w : ℕ) → kindOf w ≡ 3 → dwarf (w % 2 ^ 24) ≡ parseOf w
-dwarf-word w e = ap (λ (x : ℕ). dwarf (x % 2 ^ 24)) (sym (div-one w)) ∙ sym (of-kind 3 w e)

@@ -1,6 +1,9 @@
+pub mod Fields
 pub mod KindsX86
+pub mod NumbersX86
 pub mod FieldBits
 pub mod KindsArm64
+pub mod NumbersArm64
 pub mod Header
 pub mod One
 pub mod Examples

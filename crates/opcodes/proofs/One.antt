@@ -1,5 +1,5 @@
--- Two answers that conform to a contract are one answer, since what was told gives the answer back. (The contracts of `new`, `kind`,
--- `specific_bits` and `dwarf_number` give the answer itself.)
+-- Two answers that conform to a contract are one answer, since what was told gives the answer back. (The contracts of
+-- `new`, `kind`, `specific_bits`, `number`, `dwarf_number`, `WordX86_64::parse` and `WordArm64::parse` give the answer itself.)
 -- Assumes nothing.
 use Prim.Native.Nat.{ℕ, zero, suc}
 use mathlib.Core.Path.{_≡_, refl, ap, sym, _∙_}
@@ -18,8 +18,9 @@ use Rattle.opcodes.specs.declared.«x86_64».«ParsedX86_64».{«ParsedX
 use Rattle.opcodes.specs.declared.arm64.«OpcodeArm64».{«OpcodeArm64»}
 
 abbrev backNamed : registers.Told → Named
-backNamed registers.none = Named.Nothing
-backNamed (registers.register zero) = Named.Nothing
+backNamed registers.absent = Named.Absent
+backNamed (registers.unknown n) = Named.Unknown n
+backNamed (registers.register zero) = Named.Absent
 backNamed (registers.register (suc zero)) = Named.Register Rbx
 backNamed (registers.register (suc (suc zero))) = Named.Register R12
 backNamed (registers.register (suc (suc (suc zero)))) = Named.Register R13
@@ -34,14 +35,15 @@ wayNamed (Named.Register R13) = refl
 wayNamed (Named.Register R14) = refl
 wayNamed (Named.Register R15) = refl
 wayNamed (Named.Register Rbp) = refl
-wayNamed Named.Nothing = refl
+wayNamed Named.Absent = refl
+wayNamed (Named.Unknown n) = refl
 
 pub one-named : (t : registers.Told) (x y : Named) → registers.told x ≡ t → registers.told y ≡ t → x ≡ y
 one-named t x y p q = LeftInverse·injective backNamed registers.told wayNamed x y (p ∙ sym q)
 
 abbrev backX86 : x86.Word → «OpcodeX86_64»
 backX86 x86.null = «OpcodeX86_64».Null
-backX86 (x86.frameBased offset) = «OpcodeX86_64».FrameBased offset
+backX86 (x86.frameBased offset fields) = «OpcodeX86_64».FrameBased offset fields
 backX86 (x86.framelessImmediate size) = «OpcodeX86_64».FramelessImmediate size
 backX86 (x86.framelessIndirect place adjust) = «OpcodeX86_64».FramelessIndirect place adjust
 backX86 (x86.dwarf low24) = «OpcodeX86_64».Dwarf low24
@@ -50,7 +52,7 @@ backX86 (x86.unrecognized kind) = «OpcodeX86_64».UnrecognizedKind kind
 
 wayX86 : LeftInverse backX86 x86.wordOf
 wayX86 «OpcodeX86_64».Null = refl
-wayX86 («OpcodeX86_64».FrameBased offset) = refl
+wayX86 («OpcodeX86_64».FrameBased offset fields) = refl
 wayX86 («OpcodeX86_64».FramelessImmediate size) = refl
 wayX86 («OpcodeX86_64».FramelessIndirect place adjust) = refl
 wayX86 («OpcodeX86_64».Dwarf low24) = refl

@@ -1,11 +1,7 @@
 // Opcode words of arm64.
 ghost use mathlib.Core.Path.{_≡_};
-ghost use Rattle.opcodes.specs.WordsArm64.{pairs, ones, parseOf, told};
-use crate::bitfield::OpcodeBitfield;
-use crate::consts::OPCODE_KIND_ARM64_DWARF;
-use crate::consts::OPCODE_KIND_ARM64_FRAMEBASED;
-use crate::consts::OPCODE_KIND_ARM64_FRAMELESS;
-use crate::consts::OPCODE_KIND_NULL;
+ghost use Rattle.opcodes.specs.WordsArm64.{parseOf, told};
+use crate::words_arm64::WordArm64;
 
 pub enum OpcodeArm64 {
     Null,
@@ -36,35 +32,30 @@ impl OpcodeArm64 {
     pub fn parse(opcode: u32) -> OpcodeArm64
         ensures { λ r. ⌜ told r ≡ parseOf opcode ⌝ }
     {
-        let kind = OpcodeBitfield::new(opcode).kind();
-        match kind {
-            OPCODE_KIND_NULL => OpcodeArm64::Null,
-            OPCODE_KIND_ARM64_FRAMELESS => OpcodeArm64::Frameless {
-                stack_size_in_bytes: (16 * (opcode / 0x1000 % 0x1000)) as u16,
+        let word = WordArm64::parse(opcode);
+        let answer = word.answer;
+        let pairs = word.saved_pairs;
+        match answer {
+            0 => OpcodeArm64::Null,
+            1 => OpcodeArm64::Frameless {
+                stack_size_in_bytes: (word.value % 0x1_0000) as u16,
             },
-            OPCODE_KIND_ARM64_DWARF => OpcodeArm64::Dwarf {
-                eh_frame_fde: opcode % 0x100_0000,
+            2 => OpcodeArm64::Dwarf {
+                eh_frame_fde: word.value,
             },
-            OPCODE_KIND_ARM64_FRAMEBASED => OpcodeArm64::FrameBased {
-                saved_reg_pair_count: pair_count(opcode),
-                x19_and_x20_saved: opcode % 2 == 1,
-                x21_and_x22_saved: opcode / 2 % 2 == 1,
-                x23_and_x24_saved: opcode / 4 % 2 == 1,
-                x25_and_x26_saved: opcode / 8 % 2 == 1,
-                x27_and_x28_saved: opcode / 0x10 % 2 == 1,
-                d8_and_d9_saved: opcode / 0x100 % 2 == 1,
-                d10_and_d11_saved: opcode / 0x200 % 2 == 1,
-                d12_and_d13_saved: opcode / 0x400 % 2 == 1,
-                d14_and_d15_saved: opcode / 0x800 % 2 == 1,
+            3 => OpcodeArm64::FrameBased {
+                saved_reg_pair_count: word.saved_reg_pair_count,
+                x19_and_x20_saved: pairs % 2 == 1,
+                x21_and_x22_saved: pairs / 2 % 2 == 1,
+                x23_and_x24_saved: pairs / 4 % 2 == 1,
+                x25_and_x26_saved: pairs / 8 % 2 == 1,
+                x27_and_x28_saved: pairs / 0x10 % 2 == 1,
+                d8_and_d9_saved: pairs / 0x100 % 2 == 1,
+                d10_and_d11_saved: pairs / 0x200 % 2 == 1,
+                d12_and_d13_saved: pairs / 0x400 % 2 == 1,
+                d14_and_d15_saved: pairs / 0x800 % 2 == 1,
             },
-            other => OpcodeArm64::UnrecognizedKind(other),
+            _ => OpcodeArm64::UnrecognizedKind((word.value % 256) as u8),
         }
     }
-}
-
-// The ones in bits 0 to 4 and 8 to 11.
-fn pair_count(opcode: u32) -> u8
-    ensures { λ r. ⌜ r ≡ ones (pairs opcode) ⌝ }
-{
-    u32::count_ones(opcode & 0xf1f) as u8
 }

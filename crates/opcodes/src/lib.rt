@@ -2,4 +2,7 @@
 pub mod arm64;
 pub mod bitfield;
 pub mod consts;
+mod pick;
+pub mod words_arm64;
+pub mod words_x86_64;
 pub mod x86_64;

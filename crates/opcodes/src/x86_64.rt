@@ -1,15 +1,8 @@
 // Opcode words of x86_64, and the registers that they list.
 ghost use mathlib.Core.Path.{_≡_};
-ghost use Rattle.opcodes.specs.Registers.{namedOf, dwarfOf, told};
+ghost use Rattle.opcodes.specs.Registers.{namedOf, numberOf, dwarfOf, numberAt, fieldNamed, told};
 ghost use Rattle.opcodes.specs.WordsX86 as x86;
-use crate::bitfield::OpcodeBitfield;
-use crate::consts::OPCODE_KIND_NULL;
-use crate::consts::OPCODE_KIND_X86_DWARF;
-use crate::consts::OPCODE_KIND_X86_FRAMEBASED;
-use crate::consts::OPCODE_KIND_X86_FRAMELESS_IMMEDIATE;
-use crate::consts::OPCODE_KIND_X86_FRAMELESS_INDIRECT;
-use permutation::Decoded;
-use permutation::decode_permutation_6;
+use crate::words_x86_64::WordX86_64;
 
 pub enum RegisterNameX86_64 {
     Rbx,
@@ -22,8 +15,9 @@ pub enum RegisterNameX86_64 {
 
 // What a number in a word names.
 pub enum Named {
+    Absent,
     Register(RegisterNameX86_64),
-    Nothing,
+    Unknown(u8),
 }
 
 impl RegisterNameX86_64 {
@@ -34,13 +28,28 @@ impl RegisterNameX86_64 {
         ensures { λ r. ⌜ told r ≡ namedOf n ⌝ }
     {
         match n {
+            0 => Named::Absent,
             1 => Named::Register(RegisterNameX86_64::Rbx),
             2 => Named::Register(RegisterNameX86_64::R12),
             3 => Named::Register(RegisterNameX86_64::R13),
             4 => Named::Register(RegisterNameX86_64::R14),
             5 => Named::Register(RegisterNameX86_64::R15),
             6 => Named::Register(RegisterNameX86_64::Rbp),
-            _ => Named::Nothing,
+            other => Named::Unknown(other),
+        }
+    }
+
+    // The register's own number, from 1 on.
+    pub fn number(self) -> u8
+        ensures { λ r. ⌜ r ≡ numberOf self ⌝ }
+    {
+        match self {
+            RegisterNameX86_64::Rbx => 1,
+            RegisterNameX86_64::R12 => 2,
+            RegisterNameX86_64::R13 => 3,
+            RegisterNameX86_64::R14 => 4,
+            RegisterNameX86_64::R15 => 5,
+            RegisterNameX86_64::Rbp => 6,
         }
     }
 
@@ -62,6 +71,8 @@ pub enum OpcodeX86_64 {
     Null,
     FrameBased {
         stack_offset_in_bytes: u16,
+        // Five fields at the word's own bits; `field` says what each names.
+        fields: u16,
     },
     FramelessImmediate {
         stack_size_in_bytes: u16,
@@ -79,8 +90,7 @@ pub enum OpcodeX86_64 {
     UnrecognizedKind(u8),
 }
 
-// The registers' numbers stand beside the enum. Frame-based: place k has field k, and the sixth is 0. Frameless: in the order in
-// which they are popped, then zeros.
+// The registers that a frameless word lists stand beside the enum, by their numbers: in the order in which they are popped, then zeros.
 pub struct ParsedX86_64 {
     pub opcode: OpcodeX86_64,
     pub saved_regs: [u8; 6],
@@ -90,72 +100,61 @@ impl OpcodeX86_64 {
     pub fn parse(opcode: u32) -> ParsedX86_64
         ensures { λ r. ⌜ x86.told r ≡ x86.parseOf opcode ⌝ }
     {
-        let kind = OpcodeBitfield::new(opcode).kind();
-        match kind {
-            OPCODE_KIND_NULL => alone(OpcodeX86_64::Null),
-            OPCODE_KIND_X86_FRAMEBASED => ParsedX86_64 {
-                opcode: OpcodeX86_64::FrameBased {
-                    stack_offset_in_bytes: (8 * (opcode / 0x1_0000 % 256)) as u16,
-                },
-                saved_regs: fields(opcode),
-            },
-            OPCODE_KIND_X86_FRAMELESS_IMMEDIATE => frameless(
-                OpcodeX86_64::FramelessImmediate {
-                    stack_size_in_bytes: (8 * (opcode / 0x1_0000 % 256)) as u16,
-                },
-                opcode,
+        let word = WordX86_64::parse(opcode);
+        let saved_regs = word.saved_regs;
+        ParsedX86_64 {
+            opcode: case_of(
+                word.answer,
+                word.value,
+                word.stack_adjust_in_bytes,
+                word.fields,
             ),
-            OPCODE_KIND_X86_FRAMELESS_INDIRECT => frameless(
-                OpcodeX86_64::FramelessIndirect {
-                    immediate_offset_from_function_start: (opcode / 0x1_0000 % 256) as u8,
-                    stack_adjust_in_bytes: (8 * (opcode / 0x2000 % 8)) as u8,
-                },
-                opcode,
-            ),
-            OPCODE_KIND_X86_DWARF => alone(OpcodeX86_64::Dwarf {
-                eh_frame_fde: opcode % 0x100_0000,
-            }),
-            other => alone(OpcodeX86_64::UnrecognizedKind(other)),
+            saved_regs,
         }
     }
 }
 
-// A case that lists no registers.
-fn alone(opcode: OpcodeX86_64) -> ParsedX86_64
-    ensures { λ r. ⌜ x86.told r ≡ x86.alone (x86.wordOf opcode) ⌝ }
+// The case that has these numbers.
+fn case_of(answer: u8, value: u32, adjust: u8, fields: u16) -> OpcodeX86_64
+    ensures { λ r. ⌜ x86.wordOf r ≡ x86.caseOf answer value adjust fields ⌝ }
 {
-    ParsedX86_64 {
-        opcode,
-        saved_regs: [0u8; RegisterNameX86_64::COUNT],
+    match answer {
+        0 => OpcodeX86_64::Null,
+        1 => OpcodeX86_64::FrameBased {
+            stack_offset_in_bytes: (value % 0x1_0000) as u16,
+            fields,
+        },
+        2 => OpcodeX86_64::FramelessImmediate {
+            stack_size_in_bytes: (value % 0x1_0000) as u16,
+        },
+        3 => OpcodeX86_64::FramelessIndirect {
+            immediate_offset_from_function_start: (value % 256) as u8,
+            stack_adjust_in_bytes: adjust,
+        },
+        4 => OpcodeX86_64::Dwarf {
+            eh_frame_fde: value,
+        },
+        5 => OpcodeX86_64::InvalidFrameless,
+        _ => OpcodeX86_64::UnrecognizedKind((value % 256) as u8),
     }
 }
 
-// The five fields of a frame-based word, and a 0.
-pub fn fields(opcode: u32) -> [u8; 6]
-    ensures { λ r. ⌜ r ≡ x86.fields opcode ⌝ }
+// What field k of a frame-based word says; there are five.
+pub fn field(fields: u16, k: usize) -> Named
+    ensures { λ r. ⌜ told r ≡ fieldNamed fields k ⌝ }
 {
-    [
-        (opcode % 8) as u8,
-        (opcode / 8 % 8) as u8,
-        (opcode / 64 % 8) as u8,
-        (opcode / 512 % 8) as u8,
-        (opcode / 4096 % 8) as u8,
-        0,
-    ]
+    RegisterNameX86_64::parse(number_at(fields, k))
 }
 
-// A case that lists its registers by a permutation.
-fn frameless(case: OpcodeX86_64, opcode: u32) -> ParsedX86_64
-    ensures { λ r. ⌜ x86.told r ≡ x86.frameless (x86.wordOf case) opcode ⌝ }
+fn number_at(fields: u16, k: usize) -> u8
+    ensures { λ r. ⌜ r ≡ numberAt fields k ⌝ }
 {
-    let permutation = decode_permutation_6(opcode / 1024 % 8, opcode % 1024);
-    let decoded = permutation.decoded;
-    let saved_regs = permutation.registers;
-    match decoded {
-        Decoded::Accepted => ParsedX86_64 {
-            opcode: case,
-            saved_regs,
-        },
-        Decoded::Refused => alone(OpcodeX86_64::InvalidFrameless),
+    match k {
+        0 => (fields % 8) as u8,
+        1 => (fields / 8 % 8) as u8,
+        2 => (fields / 64 % 8) as u8,
+        3 => (fields / 512 % 8) as u8,
+        4 => (fields / 4096 % 8) as u8,
+        _ => 0,
     }
 }

@@ -6,7 +6,7 @@
 // bytes. A record is a tag, its section's place and length, how many bytes the call takes, the line's name in 20 bytes, and these bytes.
 // Each file here says what its tags have. What is missing is 0.
 //
-// The file `stdin` has 434 records of 18 exports, each refusal that they can give among them. The lines in `stdout` are the second reader's and
+// The file `stdin` has 451 records of 19 exports, each refusal that they can give among them. The lines in `stdout` are the second reader's and
 // the Rust's, and never our own; where both answer, they say the same. Both files were made by
 //
 //   compare/run record-exports crates/replay_exports
@@ -48,7 +48,7 @@ fn section<'a>(s: &'a [u8], head: &[u8]) -> &'a [u8] {
 fn call(tag: u32, section: &[u8], asked: &[u8]) {
     match tag {
         1..=4 => reads::answer(tag, section, asked),
-        5..=8 => words::answer(tag, asked),
+        5..=8 | 19 => words::answer(tag, asked),
         9..=12 => frames::answer(tag, section, asked),
         _ => sections::answer(tag, section, asked),
     }

@@ -20,13 +20,34 @@ fn permutation(count: u32, encoding: u32) -> [u32; 5] {
 
 fn x86_64(opcode: u32) -> [u32; 5] {
     let o = brasspurse_parse_x86_64(opcode);
-    let regs = o.saved_regs;
+    let popped = o.popped_regs;
+    let regs = if o.answer == 1 {
+        registers(o.fields, o.field_states)
+    } else {
+        popped
+    };
     row(
         o.answer as u32,
         o.value,
         o.stack_adjust_in_bytes as u32,
         regs,
     )
+}
+
+// The registers that the fields name, and a 0. Where one names none the Rust has nothing, be it absent or unknown.
+fn registers(fields: u16, states: u16) -> [u8; 6] {
+    [
+        register(fields, states),
+        register(fields / 8, states / 8),
+        register(fields / 64, states / 64),
+        register(fields / 512, states / 512),
+        register(fields / 4096, states / 4096),
+        0,
+    ]
+}
+
+fn register(field: u16, state: u16) -> u8 {
+    if state % 8 == 1 { (field % 8) as u8 } else { 0 }
 }
 
 // The second number is the pair count of a frame-based word.

@@ -5,13 +5,13 @@
 // first four in one number and the last two in the next.
 //
 //   1 permutation    count, encoding    refusal, 0, 0, registers
-//   2 x86_64 word    word, 0            case, value, stack adjust, registers
+//   2 x86_64 word    word, 0            case, value, stack adjust, registers: fields, or a list
 //   3 arm64 word     word, 0            case, value or pair count, pairs as bits, 0, 0
 //   101 to 103       their controls
 //
 // Cases and values are those of the C interface (include/brasspurse.h). The file `stdin` has 11,856 records. 5,832 permutations: every encoding
-// from 0 to 720 for counts 0 to 7, and 64 large counts and encodings. 4,000 x86_64 words over all kinds, counts and bounds, frame-based ones
-// without a field 7, which the Rust does not tell from 0. 2,000 arm64 words, frame-based ones without a bit of 5 to 11, where the Rust has d
+// from 0 to 720 for counts 0 to 7, and 64 large counts and encodings. 4,000 x86_64 words over all kinds, counts and bounds; a field that is
+// 7 is recorded as 0, as the Rust tells it. 2,000 arm64 words, frame-based ones without a bit of 5 to 11, where the Rust has d
 // pairs at other bits. Last 24 controls, in which each of the five numbers is changed in turn. It was made by
 //
 //   compare/run record crates/replay_opcodes/stdin

@@ -10,7 +10,7 @@ use Rattle.permutation.specs.Permutation.{bounds, decodeOf, rows as weights}
 use Rattle.opcodes.specs.WordsX86 as words-x86
 use Rattle.opcodes.specs.WordsArm64 as words-arm64
 use Rattle.frame.specs.Frame.{Anchor, stack, register, Return, slot, holds}
-use Rattle.rules.specs.Answers.{numbered, refusalOf, Ruling}
+use Rattle.rules.specs.Answers.{numbered, refusalOf, Ruling, absent, below, savedAt}
 use Rattle.rules.specs.RulesX86 as rules-x86
 use Rattle.rules.specs.RulesArm64 as rules-arm64
 use Rattle.rules.specs.SoundX86 as x86
@@ -104,6 +104,10 @@ pub refusals-told : map refusalOf
     ∷ Refusal.NotSound ∷ Refusal.FramelessIndirect ∷ Refusal.AboveAddresses ∷ Refusal.OutsideWindow ∷ [])
     ≡ (numbered 20 0 ∷ numbered 21 0xABCDEF ∷ numbered 22 15 ∷ numbered 23 0 ∷ numbered 24 0 ∷ numbered 25 0 ∷ numbered 26 0 ∷ numbered 27 0 ∷ [])
 refusals-told = refl
+
+-- What is said of each register, r12's and rbp's slots being there; and of a place past them.
+pub slots-told : map (savedAt (0 ∷ 24 ∷ 0 ∷ 0 ∷ 0 ∷ 16 ∷ [])) (0 ∷ 1 ∷ 2 ∷ 5 ∷ 6 ∷ []) ≡ absent ∷ below 24 ∷ absent ∷ below 16 ∷ absent ∷ []
+slots-told = refl
 
 pub registers-told : map {B = Anchor × Anchor} (λ (c : CfaRegister). (rules-x86.anchorTold c, rules-arm64.anchorTold c)) (CfaRegister.StackPointer ∷ CfaRegister.FramePointer ∷ [])
     ≡ ((stack, stack) ∷ (register 5, register 10) ∷ [])

@@ -8,18 +8,19 @@ use mathlib.Core.List.{List, [], _∷_}
 use native.Mathlib.Omega.{arith}
 use native.Mathlib.Nat.{zero-add, add-zero}
 use native.Mathlib.Decide.{decLt}
-use borrow.Author.Tests.{le-leb, lt-ltb, le-ltb, eq-eqb, ne-eqb, leb-true, ltb-true, not-true}
+use borrow.Author.Tests.{le-leb, lt-leb, lt-ltb, le-ltb, eq-eqb, ne-eqb, leb-true, ltb-true, not-true}
 use lib.Dec.{leb, ltb, eqb}
 use lib.ListN.{length, getD, set, replicate, length-set, getD-replicate}
 use lib.Seq.{getD-set-same, getD-set-other}
 use Rattle.permutation.specs.Permutation.{member}
 use Rattle.permutation.proofs.Tests.{both-left, both-right}
 use Rattle.permutation.proofs.Lists.{member-not, not-member}
+use Rattle.opcodes.specs.Registers.{namedOf}
 use Rattle.frame.specs.Frame.{register, slot, distances}
 use Rattle.frame.specs.Fields.{fieldSlots}
 use Rattle.frame.proofs.Fielded.{Fields}
 use Rattle.rules.specs.Answers.{numbered}
-use Rattle.rules.specs.RulesX86.{refusal, fieldsSound, based}
+use Rattle.rules.specs.RulesX86.{refusal, fieldSound, fieldsSound, based}
 use Rattle.rules.proofs.Fielding.{basedFrom}
 use Rattle.rules.specs.SoundX86.{sizeOf, fieldOf, fieldsFrom, fieldsOf, FrameBased}
 
@@ -165,22 +166,42 @@ all-three true true z t = (refl, refl, t)
 all-three true false z t = absurd (let q : _≡_ {A = ℕ} 0 1 = cc in omega arith)
 all-three false y z t = absurd (let q : _≡_ {A = ℕ} 0 1 = cc in omega arith)
 
--- The definition's test is passed exactly under these conditions.
-pub sound-conditions : (o k : ℕ) (fs : List ℕ) → fieldsSound o k fs ≡ true → Conditions o k first fs
+-- The test by the fields' numbers alone, as it was before the three cases were told apart: the same fields pass.
+abbrev pub soundByNumbers : ℕ → ℕ → List ℕ → Bool
+soundByNumbers o k [] = true
+soundByNumbers o k (f ∷ fs) = (eqb f 0 || (leb f 5 && ltb (8 * k) o && not (member f fs))) && soundByNumbers o (suc k) fs
+
+same-field : (o k f : ℕ) (fs : List ℕ) → fieldSound o k (namedOf f) fs ≡ (eqb f 0 || (leb f 5 && ltb (8 * k) o && not (member f fs)))
+same-field o k zero fs = refl
+same-field o k (suc f) fs = go (decLt f 6)
+  where
+    n0 : eqb (suc f) 0 ≡ false
+    n0 = ne-eqb (suc f) 0 (λ z. omega arith)
+
+    go : Dec (f < 6) → fieldSound o k (namedOf (suc f)) fs ≡ (eqb (suc f) 0 || (leb (suc f) 5 && ltb (8 * k) o && not (member (suc f) fs)))
+    go (yes h) = simp (n0, le-leb (suc f) 6 (omega arith))
+    go (no h) = simp (n0, lt-leb (suc f) 6 (omega arith), lt-leb (suc f) 5 (omega arith))
+
+pub same-fields-sound : (o k : ℕ) (fs : List ℕ) → fieldsSound o k fs ≡ soundByNumbers o k fs
+same-fields-sound o k [] = refl
+same-fields-sound o k (f ∷ fs) = rw (same-field o k f fs, same-fields-sound o (suc k) fs) refl
+
+-- It is passed exactly under these conditions.
+sound-conditions : (o k : ℕ) (fs : List ℕ) → soundByNumbers o k fs ≡ true → Conditions o k first fs
 sound-conditions o k [] t =
     record { named = λ j l. absurd (omega arith); inside = λ j l n. absurd (omega arith); once = λ i j l m e. absurd (omega arith); fresh = λ j l n. absurd (omega arith) }
 sound-conditions o k (zero ∷ fs) t =
     one-more o k first 0 fs (omega arith) (λ n. absurd (n refl)) (λ n. absurd (n refl)) (sound-conditions o (suc k) fs t) (λ j l e. sym e)
 sound-conditions o k (suc f ∷ fs) t =
     let a : (leb (suc f) 5 && ltb (8 * k) o && not (member (suc f) fs)) ≡ true =
-    simp (ne-eqb (suc f) 0 (λ z. omega arith)) at (both-left (eqb (suc f) 0 || (leb (suc f) 5 && ltb (8 * k) o && not (member (suc f) fs))) (fieldsSound o (suc k) fs) t) in
-    let b = both-right (eqb (suc f) 0 || (leb (suc f) 5 && ltb (8 * k) o && not (member (suc f) fs))) (fieldsSound o (suc k) fs) t in
+    simp (ne-eqb (suc f) 0 (λ z. omega arith)) at (both-left (eqb (suc f) 0 || (leb (suc f) 5 && ltb (8 * k) o && not (member (suc f) fs))) (soundByNumbers o (suc k) fs) t) in
+    let b = both-right (eqb (suc f) 0 || (leb (suc f) 5 && ltb (8 * k) o && not (member (suc f) fs))) (soundByNumbers o (suc k) fs) t in
     let p = all-three (leb (suc f) 5) (ltb (8 * k) o) (not (member (suc f) fs)) a in
     let h : suc f ≤ 5 = leb-true (suc f) 5 (p .0) in
     one-more o k first (suc f) fs h (λ n. ltb-true (8 * k) o (p .1)) (λ n. first-none f (omega arith)) (sound-conditions o (suc k) fs b)
     (λ j l e. absurd (member-not (suc f) fs (not-true (member (suc f) fs) (p .2)) j l e))
 
-pub conditions-sound : (o k : ℕ) (ds fs : List ℕ) → Conditions o k ds fs → fieldsSound o k fs ≡ true
+conditions-sound : (o k : ℕ) (ds fs : List ℕ) → Conditions o k ds fs → soundByNumbers o k fs ≡ true
 conditions-sound o k ds [] c = refl
 conditions-sound o k ds (zero ∷ fs) c = conditions-sound o (suc k) ds fs (rest-of o k ds 0 fs c)
 conditions-sound o k ds (suc f ∷ fs) c =
@@ -199,9 +220,9 @@ loop-is o fs = go (fieldsSound o 0 fs) refl
     go : (b : Bool) → fieldsSound o 0 fs ≡ b → basedFrom o 0 first fs ≡ based o fs
     go true t =
         let e : 16 + o - 8 * 0 ≡ 16 + o = omega arith in
-        (rw e at (passed o 0 first fs (conditions-pass o 0 first fs (sound-conditions o 0 fs t)))) ∙ simp t
+        (rw e at (passed o 0 first fs (conditions-pass o 0 first fs (sound-conditions o 0 fs (sym (same-fields-sound o 0 fs) ∙ t))))) ∙ simp t
     go false t = ⊎-elim
-        (λ p. absurd (let z : _≡_ {A = Bool} true false = sym (conditions-sound o 0 first fs (passes-conditions o 0 first fs refl p)) ∙ t in let q : _≡_ {A = ℕ} 0 1 = cc in omega arith))
+        (λ p. absurd (let z : _≡_ {A = Bool} true false = sym (same-fields-sound o 0 fs ∙ conditions-sound o 0 first fs (passes-conditions o 0 first fs refl p)) ∙ t in let q : _≡_ {A = ℕ} 0 1 = cc in omega arith))
         (λ e. e ∙ simp t)
         (either o 0 first fs)
 
@@ -220,11 +241,11 @@ module _ (w : ℕ) where
 
   -- the test is passed exactly by the sound words
   pub sound-tested : FrameBased w → fieldsSound (sizeOf w) 0 (fieldsOf w) ≡ true
-  sound-tested s = conditions-sound (sizeOf w) 0 first (fieldsOf w) (conditions s)
+  sound-tested s = same-fields-sound (sizeOf w) 0 (fieldsOf w) ∙ conditions-sound (sizeOf w) 0 first (fieldsOf w) (conditions s)
 
   pub tested-sound : fieldsSound (sizeOf w) 0 (fieldsOf w) ≡ true → FrameBased w
   tested-sound t =
-      let c = sound-conditions (sizeOf w) 0 (fieldsOf w) t in
+      let c = sound-conditions (sizeOf w) 0 (fieldsOf w) (sym (same-fields-sound (sizeOf w) 0 (fieldsOf w)) ∙ t) in
       record {
         named = λ k h. rw (at k h) at (c .named k h);
         once = λ j k l h e. sym (at k h) ∙ c .once j k l h (at j (omega arith) ∙ e ∙ sym (at k h));

@@ -11,8 +11,9 @@ use borrow.Author.Tests.{le-leb, lt-leb}
 use lib.ListN.{take}
 use Rattle.opcodes.specs.Bits.{bits, kindOf}
 use Rattle.opcodes.specs.WordsX86 as words
-use Rattle.opcodes.specs.WordsX86.{Told, parseOf}
+use Rattle.opcodes.specs.WordsX86.{Told, alone, parseOf}
 use Rattle.opcodes.proofs.KindsX86.{of-kind, of-no-kind}
+use Rattle.opcodes.proofs.Fields.{fields-in}
 use Rattle.permutation.specs.Permutation.{accepts, registersOf}
 use Rattle.frame.specs.Frame.{Slot}
 use Rattle.frame.specs.Calls.{All}
@@ -36,7 +37,7 @@ ruled : (w : ℕ) (t : Told) → parseOf w ≡ t → ruleOf w ≡ byWord (countO
 ruled w t p = sym (rule-of w t (sym p))
 
 based-rule : (w : ℕ) → kindOf w ≡ 1 → ruleOf w ≡ based (sizeOf w) (fieldsOf w)
-based-rule w k = ruled w (record { word = words.frameBased (sizeOf w); saved = words.fields w }) (of-kind 1 w k)
+based-rule w k = ruled w (alone (words.frameBased (sizeOf w) (bits 0 15 w))) (of-kind 1 w k) ∙ ap (based (sizeOf w)) (fields-in w)
 
 -- of a frameless word that lists xs
 module _ (w : ℕ) (xs : List ℕ) (l : Listed w xs) where

@@ -7,5 +7,7 @@ pub mod SaysX86
 pub mod SaysArm64
 pub mod FramesX86
 pub mod FramesArm64
+pub mod Slots
+pub mod Unsound
 pub mod One
 pub mod Examples

@@ -6,12 +6,13 @@ use mathlib.Core.Bool.{cond}
 use mathlib.Mathlib.Logic.Function.Defs.{LeftInverse, LeftInverse·injective}
 use lib.Dec.{eqb}
 use Rattle.frame.specs.Frame.{Anchor, stack, register}
-use Rattle.rules.specs.Answers.{Number, outcomeOf, Ruling}
+use Rattle.rules.specs.Answers.{Number, outcomeOf, Ruling, Saved, absent, below, slotTold}
 use Rattle.rules.specs.RulesX86 as x86
 use Rattle.rules.specs.RulesArm64 as arm64
 use Rattle.rules.specs.declared.Refusal.{Refusal}
 use Rattle.rules.specs.declared.Outcome.{Outcome}
 use Rattle.rules.specs.declared.CfaRegister.{CfaRegister}
+use Rattle.rules.specs.declared.Slot.{Slot}
 use Rattle.rules.specs.declared.«x86_64».«RuleX86_64».{«RuleX86_64»}
 use Rattle.rules.specs.declared.arm64.«RuleArm64».{«RuleArm64»}
 
@@ -74,3 +75,14 @@ one-rule-arm64 t x y p q = LeftInverse·injective back arm64.ruleTold way x y (p
 
     way : LeftInverse back arm64.ruleTold
     way u = given-back {A = «RuleArm64»} (λ o c. record { outcome = o; «cfa_register» = c; «cfa_distance» = u .«cfa_distance»; below = u .below }) arm64.anchorTold wayArm64 (u .outcome) (u .«cfa_register»)
+
+abbrev backSlot : Saved → Slot
+backSlot absent = Slot.Absent
+backSlot (below d) = Slot.BelowCfa d
+
+waySlot : LeftInverse backSlot slotTold
+waySlot Slot.Absent = refl
+waySlot (Slot.BelowCfa d) = refl
+
+pub one-slot : (t : Saved) (x y : Slot) → slotTold x ≡ t → slotTold y ≡ t → x ≡ y
+one-slot t x y p q = LeftInverse·injective backSlot slotTold waySlot x y (p ∙ sym q)

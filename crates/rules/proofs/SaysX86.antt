@@ -22,7 +22,7 @@ use Rattle.rules.proofs.ListsX86.{accepted-lists, list-named, listOf, t
 
 pub data Said (w : ℕ) : Type 0 where
   null : kindOf w ≡ 0 → parseOf w ≡ alone words.null → Said w
-  based : kindOf w ≡ 1 → parseOf w ≡ record { word = words.frameBased (sizeOf w); saved = words.fields w } → Said w
+  based : kindOf w ≡ 1 → parseOf w ≡ alone (words.frameBased (sizeOf w) (bits 0 15 w)) → Said w
   immediate : kindOf w ≡ 2 → accepts (countOf w) (bits 0 10 w) ≡ true
       → parseOf w ≡ record { word = words.framelessImmediate (sizeOf w); saved = registersOf (countOf w) (bits 0 10 w) } → Said w
   indirect : kindOf w ≡ 3 → accepts (countOf w) (bits 0 10 w) ≡ true
@@ -57,7 +57,7 @@ said w = go (kindOf w) refl (accepts (countOf w) (bits 0 10 w)) refl
 -- What a frame's numbers are known to be: the offset is small, and the list names registers.
 abbrev pub Fits : ℕ → words.Word → List ℕ → Type 0
 Fits n words.null saved = Unit {0}
-Fits n (words.frameBased offset) saved = offset ≤ 2040
+Fits n (words.frameBased offset fields) saved = offset ≤ 2040
 Fits n (words.framelessImmediate size) saved = (n ≤ 6) × Named 6 (take n saved)
 Fits n (words.framelessIndirect place adjust) saved = Unit {0}
 Fits n (words.dwarf low24) saved = Unit {0}

@@ -2,10 +2,11 @@
 -- Assumes nothing.
 use Prim.Native.Nat.{ℕ, suc, _+_, _*_}
 use mathlib.Core.List.{List, [], _∷_}
-use mathlib.Core.Bool.{Bool, true, cond, not, _&&_, _||_}
-use lib.Dec.{leb, ltb, eqb}
+use mathlib.Core.Bool.{Bool, true, false, cond, not, _&&_}
+use lib.Dec.{leb, ltb}
 use lib.ListN.{length, take, replicate}
 use Rattle.opcodes.specs.Bits.{bits}
+use Rattle.opcodes.specs.Registers.{Told, absent, register as named, unknown, namedOf, fieldsIn}
 use Rattle.opcodes.specs.WordsX86 as words
 use Rattle.opcodes.specs.WordsX86.{parseOf}
 use Rattle.frame.specs.Frame.{Anchor, stack, register, slot}
@@ -20,10 +21,16 @@ use Rattle.rules.specs.declared.«x86_64».«RuleX86_64».{«RuleX86_64�
 abbrev pub refusal : Number → Ruling
 refusal k = record { refusal = k; anchor = stack; distance = 0; return = slot 8; below = replicate 6 0 }
 
--- 9.2. Fields from field k on are sound: each is 0, or it is at most 5, 8k < offset, and no later field is the same.
+-- 9.2. What field k says is sound: it is absent, or a register, but not rbp, 8k < offset, and no later field names it too. An unknown is not.
+abbrev pub fieldSound : ℕ → ℕ → Told → List ℕ → Bool
+fieldSound offset k absent later = true
+fieldSound offset k (named n) later = leb n 5 && ltb (8 * k) offset && not (member n later)
+fieldSound offset k (unknown n) later = false
+
+-- so of all fields from field k on
 abbrev pub fieldsSound : ℕ → ℕ → List ℕ → Bool
 fieldsSound offset k [] = true
-fieldsSound offset k (f ∷ fs) = (eqb f 0 || (leb f 5 && ltb (8 * k) offset && not (member f fs))) && fieldsSound offset (suc k) fs
+fieldsSound offset k (f ∷ fs) = fieldSound offset k (namedOf f) fs && fieldsSound offset (suc k) fs
 
 -- 9.2. Frame-based: rbp at CFA - 16; field k, if not 0, at CFA - 16 - offset + 8k.
 abbrev pub based : ℕ → List ℕ → Ruling
@@ -33,10 +40,10 @@ based offset fs = cond (fieldsSound offset 0 fs) (ruling 6 (fields.frameBased 8 
 abbrev pub frameless : ℕ → List ℕ → Ruling
 frameless size xs = cond (leb (8 + 8 * length xs) size) (ruling 6 (pushes.frameless 8 size xs)) (refusal (numbered 24 0))
 
--- By what the word says, and bits 10 to 12, its count. Of the six places of a frame-based word five are fields.
+-- By what the word says, and bits 10 to 12, its count.
 abbrev pub byWord : ℕ → words.Word → List ℕ → Ruling
 byWord n words.null saved = refusal (numbered 20 0)
-byWord n (words.frameBased offset) saved = based offset (take 5 saved)
+byWord n (words.frameBased offset fields) saved = based offset (fieldsIn fields)
 byWord n (words.framelessImmediate size) saved = frameless size (take n saved)
 byWord n (words.framelessIndirect place adjust) saved = refusal (numbered 25 0)
 byWord n (words.dwarf low24) saved = refusal (numbered 21 low24)

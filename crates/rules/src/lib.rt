@@ -3,7 +3,7 @@ pub mod arm64;
 pub mod x86_64;
 
 ghost use mathlib.Core.Path.{_≡_};
-ghost use Rattle.rules.specs.Answers.{refusalOf, outcomeOf};
+ghost use Rattle.rules.specs.Answers.{refusalOf, outcomeOf, savedAt, slotTold};
 
 // Why there is no rule for a word, or no step by it.
 pub enum Refusal {
@@ -29,6 +29,27 @@ pub enum Outcome {
 pub enum CfaRegister {
     StackPointer,
     FramePointer,
+}
+
+// What a rule says of a register: that it isn't saved, or how far below CFA its slot starts.
+pub enum Slot {
+    Absent,
+    BelowCfa(u16),
+}
+
+impl Slot {
+    // Of the register at a place, by the distances of a rule; past them there is none.
+    pub fn of(below: &[u16], place: usize) -> Slot
+        ensures { λ r. ⌜ slotTold r ≡ savedAt (now (below .entry)) place ⌝ }
+    {
+        if place < below.len() {
+            let distance = below[place];
+            if distance != 0 {
+                return Slot::BelowCfa(distance);
+            }
+        }
+        Slot::Absent
+    }
 }
 
 impl Refusal {

@@ -2,14 +2,17 @@
 ghost use mathlib.Core.Path.{_≡_};
 ghost use Prim.Native.Nat.{_≤_};
 ghost use lib.ListN.{take};
+ghost use Rattle.opcodes.specs.Registers.{fieldsIn, numberAt};
 ghost use Rattle.frame.specs.Frame.{distancesOf};
-ghost use Rattle.frame.specs.Pushes.{pushed, Named};
+ghost use Rattle.frame.specs.Pushes as push;
 ghost use Rattle.rules.specs.Answers.{refusalOf};
 ghost use Rattle.rules.specs.RulesX86.{ruleOf, based, frameless, refusal, ruleTold};
 use crate::CfaRegister;
 use crate::Outcome;
 use crate::Refusal;
+use opcodes::x86_64::Named;
 use opcodes::x86_64::OpcodeX86_64;
+use opcodes::x86_64::field;
 
 // below has the distance below CFA of each saved register's slot, 0 for a register that isn't listed. Where the word is refused, all is 0.
 pub struct RuleX86_64 {
@@ -30,7 +33,8 @@ impl RuleX86_64 {
             OpcodeX86_64::Null => refuse(Refusal::Null),
             OpcodeX86_64::FrameBased {
                 stack_offset_in_bytes,
-            } => frame_based(stack_offset_in_bytes, saved_regs),
+                fields,
+            } => frame_based(stack_offset_in_bytes, fields),
             OpcodeX86_64::FramelessImmediate {
                 stack_size_in_bytes,
             } => frameless(stack_size_in_bytes, opcode / 1024 % 8, saved_regs),
@@ -56,15 +60,15 @@ fn refuse(why: Refusal) -> RuleX86_64
     }
 }
 
-// Field k, if not 0, names the register stored 8k above the lowest slot.
-fn frame_based(offset: u16, fields: [u8; 6]) -> RuleX86_64
+// Field k, if it names a register, says that it is stored 8k above the lowest slot.
+fn frame_based(offset: u16, fields: u16) -> RuleX86_64
     requires { ⌜ offset ≤ 2040 ⌝ }
-    ensures { λ r. ⌜ ruleTold r ≡ based offset (take 5 fields) ⌝ }
+    ensures { λ r. ⌜ ruleTold r ≡ based offset (fieldsIn fields) ⌝ }
 {
     let mut below = [0u16, 0, 0, 0, 0, 16];
     let mut k: usize = 0;
     while k < 5 {
-        let f = fields[k] as usize;
+        let f = stored(fields, k);
         if f != 0 {
             let high = 8 * (k as u16);
             if 5 < f {
@@ -88,8 +92,19 @@ fn frame_based(offset: u16, fields: [u8; 6]) -> RuleX86_64
     }
 }
 
+// The number of the register that field k says is stored, 0 for none; an unknown number is past every register's.
+fn stored(fields: u16, k: usize) -> usize
+    ensures { λ r. ⌜ r ≡ numberAt fields k ⌝ }
+{
+    match field(fields, k) {
+        Named::Absent => 0,
+        Named::Register(name) => name.number() as usize,
+        Named::Unknown(number) => number as usize,
+    }
+}
+
 fn frameless(size: u16, count: u32, registers: [u8; 6]) -> RuleX86_64
-    requires { ⌜ (count ≤ 6) × Named 6 (take count registers) ⌝ }
+    requires { ⌜ (count ≤ 6) × push.Named 6 (take count registers) ⌝ }
     ensures { λ r. ⌜ ruleTold r ≡ frameless size (take count registers) ⌝ }
 {
     if (size as u32) < 8 + 8 * count {
@@ -105,8 +120,8 @@ fn frameless(size: u16, count: u32, registers: [u8; 6]) -> RuleX86_64
 
 // The last of the list is pushed first, next to the return address.
 fn pushes(count: usize, registers: [u8; 6]) -> [u16; 6]
-    requires { ⌜ (count ≤ 6) × Named 6 (take count registers) ⌝ }
-    ensures { λ r. ⌜ r ≡ distancesOf 6 (pushed 8 (take count registers)) ⌝ }
+    requires { ⌜ (count ≤ 6) × push.Named 6 (take count registers) ⌝ }
+    ensures { λ r. ⌜ r ≡ distancesOf 6 (push.pushed 8 (take count registers)) ⌝ }
 {
     let mut below = [0u16; 6];
     let mut i = 0;

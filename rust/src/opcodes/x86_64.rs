@@ -2,11 +2,12 @@
 
 #![forbid(unsafe_code)]
 
+use super::Named;
 use crate::ffi;
 use std::fmt::{Display, Formatter, Result};
 
 /// A register that a word can list.
-#[derive(Copy, Clone, Debug, PartialEq, Eq)]
+#[derive(Copy, Clone, Debug, PartialEq, Eq, Hash)]
 #[allow(missing_docs)]
 pub enum RegisterNameX86_64 {
     Rbx,
@@ -17,21 +18,30 @@ pub enum RegisterNameX86_64 {
     Rbp,
 }
 
+/// By their numbers, from 1 on.
+const REGISTERS: [RegisterNameX86_64; RegisterNameX86_64::COUNT] = [
+    RegisterNameX86_64::Rbx,
+    RegisterNameX86_64::R12,
+    RegisterNameX86_64::R13,
+    RegisterNameX86_64::R14,
+    RegisterNameX86_64::R15,
+    RegisterNameX86_64::Rbp,
+];
+
 impl RegisterNameX86_64 {
     /// How many registers there are.
     pub const COUNT: usize = 6;
 
-    /// The register with a number from 1 to 6; 0 and 7 name none.
-    pub fn parse(n: u8) -> Option<Self> {
-        match n {
-            1 => Some(RegisterNameX86_64::Rbx),
-            2 => Some(RegisterNameX86_64::R12),
-            3 => Some(RegisterNameX86_64::R13),
-            4 => Some(RegisterNameX86_64::R14),
-            5 => Some(RegisterNameX86_64::R15),
-            6 => Some(RegisterNameX86_64::Rbp),
-            _ => None,
-        }
+    /// What a number names: 0 nothing, 1 to 6 a register. Any other is unknown. In the original it
+    /// is an `Option`, `None` for both.
+    pub fn parse(n: u8) -> Named<Self> {
+        let answer = ffi::register_x86_64(n);
+        named(answer.state, answer.number as u8)
+    }
+
+    /// The register with a number from 1 to 6.
+    fn numbered(n: u8) -> Self {
+        REGISTERS[usize::from(n) - 1]
     }
 
     /// DWARF's number for the register.
@@ -70,17 +80,22 @@ pub enum OpcodeX86_64 {
     Null,
     /// The frame has a frame pointer.
     FrameBased {
-        /// How far the lowest stored register lies below rbp.
+        /// How far the slot of field 0 lies below rbp.
         stack_offset_in_bytes: u16,
-        /// The word's five fields, the highest first: the last place is the lowest slot's. A field
-        /// that is 7 is `None` like one that is 0; a step refuses it, with 24.
-        saved_regs: [Option<RegisterNameX86_64>; 5],
+        /// The word's five fields, in its own order: place k has field k, which names the register
+        /// whose slot lies 8k above field 0's. This is the original's order turned round: there,
+        /// and here before 0.6.0, the highest field comes first, and is `None` if it is 0 or 7.
+        ///
+        /// A word with a field that is unknown, or that names rbp, has no rule and no step: it is
+        /// refused with 24.
+        saved_regs: [Named<RegisterNameX86_64>; 5],
     },
     /// The frame has no frame pointer, and the word has its size.
     FramelessImmediate {
         /// From the stack pointer to CFA.
         stack_size_in_bytes: u16,
-        /// The registers, in the order in which they are popped; `None`s follow.
+        /// The registers, in the order in which they are popped; `None`s follow, which are absent.
+        /// No place is ever unknown: a permutation lists registers alone.
         saved_regs: [Option<RegisterNameX86_64>; 6],
     },
     /// The frame has no frame pointer, and its size stands in the function's code.
@@ -89,7 +104,7 @@ pub enum OpcodeX86_64 {
         immediate_offset_from_function_start: u8,
         /// What is to be added to it.
         stack_adjust_in_bytes: u8,
-        /// The registers, in the order in which they are popped; `None`s follow.
+        /// The registers, as in [`FramelessImmediate`](OpcodeX86_64::FramelessImmediate).
         saved_regs: [Option<RegisterNameX86_64>; 6],
     },
     /// The frame is described in `__eh_frame`.
@@ -107,23 +122,20 @@ impl OpcodeX86_64 {
     /// Reads a word.
     pub fn parse(opcode: u32) -> Self {
         let word = ffi::parse_x86_64(opcode);
-        let [r0, r1, r2, r3, r4, r5] = word.saved_regs;
-        let name = RegisterNameX86_64::parse;
         match word.answer {
             0 => OpcodeX86_64::Null,
             1 => OpcodeX86_64::FrameBased {
                 stack_offset_in_bytes: word.value as u16,
-                // The library has field k at place k.
-                saved_regs: [name(r4), name(r3), name(r2), name(r1), name(r0)],
+                saved_regs: fields(word.fields, word.field_states),
             },
             2 => OpcodeX86_64::FramelessImmediate {
                 stack_size_in_bytes: word.value as u16,
-                saved_regs: [name(r0), name(r1), name(r2), name(r3), name(r4), name(r5)],
+                saved_regs: popped(word.popped_regs),
             },
             3 => OpcodeX86_64::FramelessIndirect {
                 immediate_offset_from_function_start: word.value as u8,
                 stack_adjust_in_bytes: word.stack_adjust_in_bytes,
-                saved_regs: [name(r0), name(r1), name(r2), name(r3), name(r4), name(r5)],
+                saved_regs: popped(word.popped_regs),
             },
             4 => OpcodeX86_64::Dwarf {
                 eh_frame_fde: word.value,
@@ -132,6 +144,29 @@ impl OpcodeX86_64 {
             _ => OpcodeX86_64::UnrecognizedKind(word.value as u8),
         }
     }
+}
+
+/// By the library's state of a number: it is 1 for 1 to 6 alone.
+fn named(state: u32, number: u8) -> Named<RegisterNameX86_64> {
+    match state {
+        0 => Named::Absent,
+        1 => Named::Register(RegisterNameX86_64::numbered(number)),
+        _ => Named::Unknown(number),
+    }
+}
+
+/// Field k and its state are bits 3k to 3k + 2.
+fn fields(numbers: u16, states: u16) -> [Named<RegisterNameX86_64>; 5] {
+    let field = |of: u16, k: u16| of >> (3 * k) & 7;
+    [0, 1, 2, 3, 4].map(|k| named(field(states, k).into(), field(numbers, k) as u8))
+}
+
+/// A list in which 0 is absent, and all else a register.
+fn popped(numbers: [u8; 6]) -> [Option<RegisterNameX86_64>; 6] {
+    numbers.map(|n| match n {
+        0 => None,
+        _ => Some(RegisterNameX86_64::numbered(n)),
+    })
 }
 
 impl Display for OpcodeX86_64 {
@@ -143,14 +178,14 @@ impl Display for OpcodeX86_64 {
                 saved_regs,
             } => {
                 write!(f, "frame-based, {stack_offset_in_bytes} below rbp")?;
-                list(f, saved_regs)
+                list(f, *saved_regs)
             }
             OpcodeX86_64::FramelessImmediate {
                 stack_size_in_bytes,
                 saved_regs,
             } => {
                 write!(f, "frameless, {stack_size_in_bytes} bytes")?;
-                list(f, saved_regs)
+                list(f, saved_regs.map(listed))
             }
             OpcodeX86_64::FramelessIndirect {
                 immediate_offset_from_function_start: place,
@@ -158,7 +193,7 @@ impl Display for OpcodeX86_64 {
                 saved_regs,
             } => {
                 write!(f, "frameless, size at {place} in the code and {more} more")?;
-                list(f, saved_regs)
+                list(f, saved_regs.map(listed))
             }
             OpcodeX86_64::Dwarf { eh_frame_fde } => write!(f, "__eh_frame at {eh_frame_fde:#x}"),
             OpcodeX86_64::InvalidFrameless => write!(f, "frameless, not a permutation"),
@@ -167,10 +202,20 @@ impl Display for OpcodeX86_64 {
     }
 }
 
-fn list(f: &mut Formatter, registers: &[Option<RegisterNameX86_64>]) -> Result {
-    for (i, register) in registers.iter().flatten().enumerate() {
-        let before = if i == 0 { ":" } else { "" };
-        write!(f, "{before} {}", register.name())?;
+fn listed(register: Option<RegisterNameX86_64>) -> Named<RegisterNameX86_64> {
+    register.map_or(Named::Absent, Named::Register)
+}
+
+/// What is absent is not printed; what is unknown is.
+fn list<const N: usize>(f: &mut Formatter, list: [Named<RegisterNameX86_64>; N]) -> Result {
+    let mut before = ":";
+    for named in list {
+        match named {
+            Named::Absent => continue,
+            Named::Register(register) => write!(f, "{before} {}", register.name())?,
+            Named::Unknown(number) => write!(f, "{before} unknown {number}")?,
+        }
+        before = "";
     }
     Ok(())
 }

@@ -1,11 +1,11 @@
-//! Steps written by hand over the words' variants, as users of the original have them, beside the
-//! crate's own.
+//! Steps written by hand over the words' variants, as users of the original have them but for the
+//! fields of frame-based words, beside the crate's own.
 
 use crate::inputs::Random;
 use macho_unwind_info::frames::{
     step_arm64, step_x86_64, RegistersArm64, RegistersX86_64, RuleX86_64,
 };
-use macho_unwind_info::opcodes::{OpcodeArm64, OpcodeX86_64, RegisterNameX86_64};
+use macho_unwind_info::opcodes::{Named, OpcodeArm64, OpcodeX86_64, RegisterNameX86_64};
 
 const WORDS: usize = 100_000;
 const BASE: u64 = 0x7000_0000;
@@ -34,9 +34,11 @@ fn x86_64_by_hand(opcode: u32, registers: RegistersX86_64, window: &[u8]) -> Reg
         } => {
             let rbp = registers.saved[RegistersX86_64::RBP];
             let mut address = rbp - u64::from(stack_offset_in_bytes);
-            for register in saved_regs.iter().rev() {
-                if let Some(register) = *register {
-                    set(register, load(window, address));
+            for field in saved_regs {
+                match field {
+                    Named::Absent => {}
+                    Named::Register(register) => set(register, load(window, address)),
+                    Named::Unknown(number) => panic!("{opcode:#010x}: {number}"),
                 }
                 address += 8;
             }

@@ -4,9 +4,11 @@ use crate::inputs::s;
 use crate::sections::{broken, s_with};
 use macho_unwind_info::frames::{
     step_arm64, step_x86_64, CfaRegister, RegistersArm64, RegistersX86_64, RuleArm64, RuleX86_64,
-    Unwound,
+    Slot, Unwound,
 };
+use macho_unwind_info::opcodes::decode_permutation_6;
 use macho_unwind_info::{Error, ReadError, Refusal, UnwindError, UnwindInfo};
+use Slot::{Absent, BelowCfa};
 
 /// The worked example P12 (docs/FORMAT.md, 13.1): a window from 0x7000 to 0x7018 with rbx, rbp and
 /// the return address.
@@ -53,7 +55,7 @@ const DWARF: Refusal = Refusal::Dwarf {
 };
 
 /// Words that no window helps.
-const REFUSED_X86_64: [(u32, Refusal); 11] = [
+const REFUSED_X86_64: [(u32, Refusal); 13] = [
     (0xf0ff_ffff, Refusal::Null),
     (0x04ab_cdef, DWARF),
     (0x0501_0001, Refusal::UnrecognizedKind(5)),
@@ -62,7 +64,9 @@ const REFUSED_X86_64: [(u32, Refusal); 11] = [
     (0x0300_0406, Refusal::InvalidFrameless),
     (0x0202_0800, Refusal::NotSound),
     (0x0101_0006, Refusal::NotSound),
+    (0x0100_0007, Refusal::NotSound),
     (0x0101_0007, Refusal::NotSound),
+    (0x41ff_7fff, Refusal::NotSound),
     (0x0102_0009, Refusal::NotSound),
     (0x0300_0405, Refusal::FramelessIndirect),
 ];
@@ -99,34 +103,127 @@ fn rules_say_where_registers_lie() {
     let rule = RuleX86_64::parse(P12).unwrap();
     assert_eq!(rule.cfa_register, CfaRegister::FramePointer);
     assert_eq!(rule.cfa_distance, 16);
-    assert_eq!(rule.below, [24, 0, 0, 0, 0, 16]);
+    assert_eq!(
+        rule.slots,
+        [BelowCfa(24), Absent, Absent, Absent, Absent, BelowCfa(16)]
+    );
 
     let rule = RuleX86_64::parse(0x0203_0800).unwrap();
     assert_eq!(rule.cfa_register, CfaRegister::StackPointer);
     assert_eq!(rule.cfa_distance, 24);
-    assert_eq!(rule.below[RegistersX86_64::RBX], 24);
-    assert_eq!(rule.below[RegistersX86_64::R12], 16);
+    assert_eq!(
+        rule.slots,
+        [BelowCfa(24), BelowCfa(16), Absent, Absent, Absent, Absent]
+    );
 
     let rule = RuleArm64::parse(0x0400_0101).unwrap();
     assert_eq!(rule.cfa_register, CfaRegister::FramePointer);
     assert_eq!(rule.cfa_distance, 16);
-    let mut below = [0; 20];
-    below[..2].copy_from_slice(&[24, 32]);
-    below[RegistersArm64::X29] = 16;
-    below[RegistersArm64::X30] = 8;
-    below[RegistersArm64::D8..][..2].copy_from_slice(&[40, 48]);
-    assert_eq!(rule.below, below);
+    let mut slots = [Absent; 20];
+    slots[..2].copy_from_slice(&[BelowCfa(24), BelowCfa(32)]);
+    slots[RegistersArm64::X29] = BelowCfa(16);
+    slots[RegistersArm64::X30] = BelowCfa(8);
+    slots[RegistersArm64::D8..][..2].copy_from_slice(&[BelowCfa(40), BelowCfa(48)]);
+    assert_eq!(rule.slots, slots);
 
     let rule = RuleArm64::parse(0x02ff_f000).unwrap();
     assert_eq!(rule.cfa_register, CfaRegister::StackPointer);
-    assert_eq!((rule.cfa_distance, rule.below), (65_520, [0; 20]));
+    assert_eq!((rule.cfa_distance, rule.slots), (65_520, [Absent; 20]));
+}
+
+/// A second account of a frame-based word's rule: its slots, if each field is absent or one of rbx
+/// to r15, none twice, and has its slot below rbp.
+fn slots_of(low: u32, offset: u32) -> Option<[Slot; 6]> {
+    let mut slots = [Absent; 6];
+    slots[RegistersX86_64::RBP] = BelowCfa(16);
+    for k in 0..5 {
+        let register = match low / 8_u32.pow(k) % 8 {
+            0 => continue,
+            field => field as usize - 1,
+        };
+        if register >= RegistersX86_64::RBP || slots[register] != Absent || 8 * k >= offset {
+            return None;
+        }
+        slots[register] = BelowCfa((16 + offset - 8 * k) as u16);
+    }
+    Some(slots)
+}
+
+/// Every combination of fields, at six offsets.
+#[test]
+fn rules_refuse_unknown_fields_and_no_absent_ones() {
+    let (mut ruled, mut refused) = (0, 0);
+    for low in 0..0x8000 {
+        for eighth in [0, 1, 2, 4, 5, 255] {
+            let word = 0x0100_0000 | eighth << 16 | low;
+            let expected = match slots_of(low, 8 * eighth) {
+                Some(slots) => {
+                    ruled += 1;
+                    Ok(RuleX86_64 {
+                        cfa_register: CfaRegister::FramePointer,
+                        cfa_distance: 16,
+                        slots,
+                    })
+                }
+                None => {
+                    refused += 1;
+                    Err(Refusal::NotSound)
+                }
+            };
+            assert_eq!(RuleX86_64::parse(word), expected, "{word:#010x}");
+        }
+    }
+    // At 5 eighths and more: k of five registers at k of five places, 1,546 in all.
+    assert_eq!(ruled, 1 + 6 + 31 + 501 + 2 * 1_546);
+    assert_eq!(ruled + refused, 6 * 0x8000);
+}
+
+/// All permutations: a register that is listed has a slot, and no other has.
+#[test]
+fn frameless_rules_have_the_slots_listed() {
+    for low in 0..0x2000 {
+        let word = 0x0209_0000 | low;
+        let rule = RuleX86_64::parse(word);
+        let listed = match decode_permutation_6(low >> 10, low & 0x3ff) {
+            Ok(listed) => listed,
+            Err(_) => {
+                assert_eq!(rule, Err(Refusal::InvalidFrameless), "{word:#010x}");
+                continue;
+            }
+        };
+        for (n, slot) in (1..).zip(rule.unwrap().slots) {
+            assert_eq!(slot != Absent, listed.contains(&n), "{word:#010x}");
+        }
+    }
+}
+
+/// All pairs: those that are marked have slots, x29 and x30 too, and nothing else has.
+#[test]
+fn arm64_rules_have_the_slots_marked() {
+    for low in 0..0x1000_u32 {
+        let slots = RuleArm64::parse(0x0400_0000 | low).unwrap().slots;
+        for (place, slot) in slots.into_iter().enumerate() {
+            let expected = match place {
+                0..=9 => low >> (place / 2) & 1 == 1,
+                10 | 11 => true,
+                _ => low >> (place / 2 + 2) & 1 == 1,
+            };
+            assert_eq!(slot != Absent, expected, "{low:#x} {place}");
+        }
+        let frameless = RuleArm64::parse(0x0200_0000 | low).unwrap();
+        assert_eq!(frameless.slots, [Absent; 20]);
+    }
 }
 
 /// x19 to x28, x29 and x30, d8 to d15, as [`RegistersArm64::saved`] has them.
 #[test]
 fn arm64_pairs_lie_in_their_order() {
+    let number = |slot| match slot {
+        Absent => 0,
+        BelowCfa(distance) => distance,
+    };
     let below = |word| {
-        let below = RuleArm64::parse(word).unwrap().below;
+        let below = RuleArm64::parse(word).unwrap().slots.map(number);
         let (x, rest) = below.split_at(RegistersArm64::X29);
         let (frame, d) = rest.split_at(2);
         assert_eq!(frame, [16, 8], "{word:#010x}");

@@ -2,10 +2,12 @@
 
 use crate::inputs::Random;
 use macho_unwind_info::opcodes::{
-    decode_permutation_6, encode_permutation_6, OpcodeArm64, OpcodeBitfield, OpcodeX86_64,
+    decode_permutation_6, encode_permutation_6, Named, OpcodeArm64, OpcodeBitfield, OpcodeX86_64,
     RegisterNameX86_64,
 };
 use macho_unwind_info::PermutationError;
+use std::collections::HashSet;
+use Named::{Absent, Register, Unknown};
 use RegisterNameX86_64::*;
 
 const RANDOM_WORDS: usize = 200_000;
@@ -22,7 +24,7 @@ fn the_words_of_s() {
         OpcodeX86_64::parse(0x0101_0001),
         OpcodeX86_64::FrameBased {
             stack_offset_in_bytes: 8,
-            saved_regs: [None, None, None, None, Some(Rbx)],
+            saved_regs: [Register(Rbx), Absent, Absent, Absent, Absent],
         }
     );
     assert_eq!(
@@ -34,22 +36,57 @@ fn the_words_of_s() {
     );
 }
 
-/// The original's own expressions for the fields.
+/// The original's `RegisterNameX86_64::parse`.
+fn original_name(n: u8) -> Option<RegisterNameX86_64> {
+    match n {
+        1 => Some(Rbx),
+        2 => Some(R12),
+        3 => Some(R13),
+        4 => Some(R14),
+        5 => Some(R15),
+        6 => Some(Rbp),
+        _ => None,
+    }
+}
+
+/// The same, with what is absent told from what is unknown.
+fn told(n: u8) -> Named<RegisterNameX86_64> {
+    match (n, original_name(n)) {
+        (_, Some(name)) => Register(name),
+        (0, None) => Absent,
+        (_, None) => Unknown(n),
+    }
+}
+
+/// The original's fields of a frame-based word: the highest first.
+fn original_fields(opcode: u32) -> [Option<RegisterNameX86_64>; 5] {
+    [12, 9, 6, 3, 0].map(|shift| original_name((opcode >> shift & 0b111) as u8))
+}
+
+/// The fields of a frame-based word.
+fn fields(opcode: u32) -> [Named<RegisterNameX86_64>; 5] {
+    match OpcodeX86_64::parse(opcode) {
+        OpcodeX86_64::FrameBased { saved_regs, .. } => saved_regs,
+        other => panic!("{opcode:#010x}: {other}"),
+    }
+}
+
+/// The original's own expressions; but the fields of frame-based words come in the word's order,
+/// and some are unknown.
 #[test]
-fn x86_64_words_are_read_as_the_original_reads_them() {
+fn x86_64_words_are_read_as_the_original_reads_them_but_for_fields() {
     let mut kinds = [0; 7];
     for opcode in random_words() {
         let kind = (opcode >> 24 & 0b1111) as u8;
-        let register = |shift: u32| RegisterNameX86_64::parse((opcode >> shift & 0b111) as u8);
         let size = (opcode >> 16 & 0xff) as u16 * 8;
         let listed = decode_permutation_6(opcode >> 10 & 0b111, opcode & 0b11_1111_1111)
-            .map(|registers| registers.map(RegisterNameX86_64::parse));
+            .map(|registers| registers.map(original_name));
         let (case, expected) = match (kind, listed) {
             (0, _) => (0, OpcodeX86_64::Null),
             (1, _) => {
                 let based = OpcodeX86_64::FrameBased {
                     stack_offset_in_bytes: size,
-                    saved_regs: [12, 9, 6, 3, 0].map(register),
+                    saved_regs: [0, 3, 6, 9, 12].map(|shift| told((opcode >> shift & 0b111) as u8)),
                 };
                 (1, based)
             }
@@ -205,12 +242,100 @@ fn arm64_d_pairs_are_not_the_originals() {
     assert_eq!(pairs(0x0400_0100), (1, d8));
 }
 
+/// The smallest words with an absent and with an unknown field: to the original they are alike.
 #[test]
-fn a_field_of_7_names_nothing() {
+fn absent_is_not_unknown() {
+    let based = |saved_regs| OpcodeX86_64::FrameBased {
+        stack_offset_in_bytes: 0,
+        saved_regs,
+    };
+    let (absent, unknown) = (0x0100_0000, 0x0100_0007);
+    assert_eq!(OpcodeX86_64::parse(absent), based([Absent; 5]));
     assert_eq!(
-        OpcodeX86_64::parse(0x0100_0007),
-        OpcodeX86_64::parse(0x0100_0000)
+        OpcodeX86_64::parse(unknown),
+        based([Unknown(7), Absent, Absent, Absent, Absent])
     );
+    assert_eq!(original_fields(absent), original_fields(unknown));
+    assert_eq!(fields(0x41ff_7fff), [Unknown(7); 5]);
+}
+
+/// Place k has field k, whose bits are 3k to 3k + 2; bits 15 and 28 to 31 say nothing.
+#[test]
+fn fields_are_in_the_words_order() {
+    assert_eq!(
+        OpcodeX86_64::parse(0x912a_c54b),
+        OpcodeX86_64::FrameBased {
+            stack_offset_in_bytes: 336,
+            saved_regs: [R13, Rbx, R15, R12, R14].map(Register),
+        }
+    );
+    for (k, word) in [1, 8, 0x40, 0x200, 0x1000].into_iter().enumerate() {
+        let mut expected = [Absent; 5];
+        expected[k] = Register(Rbx);
+        assert_eq!(fields(0x0100_0000 + word), expected);
+        expected[k] = Unknown(7);
+        assert_eq!(fields(0x0100_0000 + 7 * word), expected);
+        expected[k] = Register(Rbp);
+        assert_eq!(fields(0x0100_0000 + 6 * word), expected);
+    }
+}
+
+/// All combinations, in the order of their numbers; and the original's fields, turned round.
+#[test]
+fn every_combination_of_fields_is_read() {
+    let eight = [
+        Absent,
+        Register(Rbx),
+        Register(R12),
+        Register(R13),
+        Register(R14),
+        Register(R15),
+        Register(Rbp),
+        Unknown(7),
+    ];
+    let mut word = 0x0100_0000;
+    for e in eight {
+        for d in eight {
+            for c in eight {
+                for b in eight {
+                    for a in eight {
+                        assert_eq!(fields(word), [a, b, c, d, e], "{word:#010x}");
+                        let mut original = original_fields(word);
+                        original.reverse();
+                        let known = fields(word).map(|field| match field {
+                            Register(name) => Some(name),
+                            _ => None,
+                        });
+                        assert_eq!(known, original, "{word:#010x}");
+                        word += 1;
+                    }
+                }
+            }
+        }
+    }
+    assert_eq!(word, 0x0100_8000);
+}
+
+/// All permutations of both kinds: as many different registers as are counted, then `None`s.
+#[test]
+fn frameless_lists_have_registers_and_then_nothing() {
+    let mut lists = 0;
+    for low in 0..0x2000 {
+        for kind in [0x0200_0000, 0x0300_0000] {
+            let saved_regs = match OpcodeX86_64::parse(kind | low) {
+                OpcodeX86_64::FramelessImmediate { saved_regs, .. } => saved_regs,
+                OpcodeX86_64::FramelessIndirect { saved_regs, .. } => saved_regs,
+                OpcodeX86_64::InvalidFrameless => continue,
+                other => panic!("{:#010x}: {other}", kind | low),
+            };
+            let (listed, rest) = saved_regs.split_at(low as usize >> 10);
+            let registers: HashSet<_> = listed.iter().flatten().collect();
+            assert_eq!(registers.len(), listed.len(), "{low:#06x}");
+            assert!(rest.iter().all(Option::is_none), "{low:#06x}");
+            lists += 1;
+        }
+    }
+    assert_eq!(lists, 2 * (1024 + 6 + 30 + 120 + 360 + 720 + 720));
 }
 
 #[test]
@@ -256,12 +381,15 @@ fn a_bitfield_has_the_four_bits_above_its_kind() {
 }
 
 #[test]
-fn six_numbers_name_registers() {
+fn a_number_is_absent_a_register_or_unknown() {
     let registers = [Rbx, R12, R13, R14, R15, Rbp];
     assert_eq!(registers.len(), RegisterNameX86_64::COUNT);
-    for n in 0..=255 {
-        let expected = registers.get(usize::from(n).wrapping_sub(1)).copied();
-        assert_eq!(RegisterNameX86_64::parse(n), expected, "{n}");
+    assert_eq!(RegisterNameX86_64::parse(0), Absent);
+    for (n, register) in (1..).zip(registers) {
+        assert_eq!(RegisterNameX86_64::parse(n), Register(register));
+    }
+    for n in 7..=255 {
+        assert_eq!(RegisterNameX86_64::parse(n), Unknown(n));
     }
     assert_eq!(
         registers.map(|register| register.dwarf_number()),
@@ -316,7 +444,13 @@ fn lists_that_are_none_are_refused() {
 fn words_print() {
     let x86_64 = |word| OpcodeX86_64::parse(word).to_string();
     assert_eq!(x86_64(0), "null");
-    assert_eq!(x86_64(0x0103_0045), "frame-based, 24 below rbp: rbx r15");
+    assert_eq!(x86_64(0x0100_0000), "frame-based, 0 below rbp");
+    assert_eq!(x86_64(0x0103_0045), "frame-based, 24 below rbp: r15 rbx");
+    assert_eq!(x86_64(0x0100_0007), "frame-based, 0 below rbp: unknown 7");
+    assert_eq!(
+        x86_64(0x0105_31f9),
+        "frame-based, 40 below rbp: rbx unknown 7 unknown 7 r13"
+    );
     assert_eq!(x86_64(0x0201_0000), "frameless, 8 bytes");
     assert_eq!(
         x86_64(0x030d_e405),

@@ -1,6 +1,7 @@
 //! x86_64's words.
 
 use super::arrangements::numbered;
+use super::named::{fields, Named};
 use super::{bits, Frame, Refused, ReturnAddress};
 
 /// rbp's place among the preserved registers; each of the others stands one before its number.
@@ -11,7 +12,7 @@ pub fn frame(word: u32) -> Result<Frame<6>, Refused> {
     let list = || numbered(bits(word, 10, 12), bits(word, 0, 9)).ok_or((23, 0));
     match bits(word, 24, 27) {
         0 => Err((20, 0)),
-        1 => frame_based(eights, [0, 3, 6, 9, 12].map(|at| bits(word, at, at + 2))),
+        1 => frame_based(eights, fields(word)),
         2 => immediate(eights, list()?),
         3 => list().and(Err((25, 0))),
         4 => Err((21, bits(word, 0, 23))),
@@ -19,15 +20,20 @@ pub fn frame(word: u32) -> Result<Frame<6>, Refused> {
     }
 }
 
-/// Field k is stored at CFA − 16 − offset + 8k.
-pub fn frame_based(offset: i128, fields: [u32; 5]) -> Result<Frame<6>, Refused> {
+/// Field k is stored at CFA − 16 − offset + 8k. rbp has its own slot, and no field names it.
+pub fn frame_based(offset: i128, fields: [Named; 5]) -> Result<Frame<6>, Refused> {
     let mut below = [None; 6];
-    for (k, field) in (0..).zip(fields).filter(|&(_, field)| field != 0) {
-        let twice = fields.iter().filter(|&&other| other == field).count() > 1;
-        if field > 5 || twice || 8 * k >= offset {
-            return Err((24, 0));
+    for (k, field) in (0..).zip(fields) {
+        match field {
+            Named::Absent => {}
+            Named::Register(register @ 1..=5) if 8 * k < offset => {
+                let before = below[register - 1].replace(16 + offset - 8 * k);
+                if before.is_some() {
+                    return Err((24, 0));
+                }
+            }
+            Named::Register(_) | Named::Unknown(_) => return Err((24, 0)),
         }
-        below[field as usize - 1] = Some(16 + offset - 8 * k);
     }
     below[RBP] = Some(16);
     Ok(Frame {

@@ -1,7 +1,7 @@
 //! The calls that are recorded, and the cases that each must be met in.
 
 /// Case: the refusal; for an answer that has an outcome, 100 for each of that and the refusal;
-/// for a read 1 if it is granted, for a register 1 if it is named; the kind.
+/// for a read 1 if it is granted; a register's state; a word's kind, or the answer on it.
 pub struct Call {
     pub tag: u32,
     pub name: &'static str,
@@ -45,7 +45,7 @@ pub const READ_U64: Call = call(4, "read_u64", YES_OR_NO);
 pub const ENCODE_PERMUTATION_6: Call = call(5, "encode_permutation_6", &[0, 28]);
 pub const OPCODE_KIND: Call = call(6, "opcode_kind", KINDS);
 pub const OPCODE_SPECIFIC_BITS: Call = call(7, "opcode_specific_bits", &[0, 5, 10, 15]);
-pub const REGISTER_X86_64: Call = call(8, "register_x86_64", YES_OR_NO);
+pub const REGISTER_X86_64: Call = call(8, "register_x86_64", &[0, 1, 2]);
 pub const RULE_X86_64: Call = call(9, "rule_x86_64", &[0, 20, 21, 22, 23, 24, 25]);
 pub const RULE_ARM64: Call = call(10, "rule_arm64", &[0, 20, 21, 22]);
 pub const UNWIND_X86_64: Call = call(11, "unwind_x86_64", UNWINDS_X86_64);
@@ -56,8 +56,9 @@ pub const NEXT_IN: Call = call(15, "next_in", STEPS_IN);
 pub const FILL: Call = call(16, "fill", STEPS);
 pub const FILL_IN: Call = call(17, "fill_in", STEPS_IN);
 pub const LOOKUP_BATCH: Call = call(18, "lookup_batch", LOOKUPS);
+pub const PARSE_X86_64: Call = call(19, "parse_x86_64", &[0, 1, 2, 3, 4, 5, 6]);
 
-pub const ALL: [&Call; 18] = [
+pub const ALL: [&Call; 19] = [
     &IS_GRANTED,
     &READ_U16,
     &READ_U32,
@@ -76,4 +77,5 @@ pub const ALL: [&Call; 18] = [
     &FILL,
     &FILL_IN,
     &LOOKUP_BATCH,
+    &PARSE_X86_64,
 ];

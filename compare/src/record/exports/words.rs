@@ -6,8 +6,10 @@ use crate::encoder::{self, Expected};
 use crate::ffi::Number;
 use crate::frames::machine::{Machine, ARM64, X86_64};
 use crate::frames::named;
+use crate::model::frame::named::Named;
+use crate::model::frame::word::parse_x86_64;
 use crate::model::frame::{arrangements, rule};
-use crate::oracle::{Release, RELEASES};
+use crate::oracle::{told, Release, RELEASES};
 use crate::record::same;
 use std::collections::BTreeSet;
 use std::io::Result;
@@ -27,7 +29,8 @@ pub fn record(out: &mut Files) -> Result<()> {
         grant(out, section);
     }
     bits(out);
-    registers(out);
+    registers(out)?;
+    parsed(out)?;
     encode(out)?;
     let x86_64 = named::x86_64()
         .iter()
@@ -102,17 +105,59 @@ fn bits(out: &mut Files) {
     }
 }
 
-fn registers(out: &mut Files) {
+/// The model's, and the Rust's as far as that tells it.
+fn registers(out: &mut Files) -> Result<()> {
     for n in [0, 1, 2, 3, 4, 5, 6, 7, 8, 255] {
-        let name = same(|release| (release.register_x86_64)(n));
-        let numbers = [name.named, name.dwarf_number].map(u64::from);
-        out.record(
-            &calls::REGISTER_X86_64,
-            &u32s(&[n.into()]),
-            &[name.named],
-            numbers,
-        );
+        let model = Named::by(n.into()).told();
+        let rust = same(|release| (release.register_x86_64)(n));
+        agreed("a register", told::register(model), rust)?;
+        let numbers = [model.state, model.number, model.dwarf_number].map(u64::from);
+        let asked = u32s(&[n.into()]);
+        out.record(&calls::REGISTER_X86_64, &asked, &[model.state], numbers);
     }
+    Ok(())
+}
+
+/// Frame-based: no field, rbp, 7, all five, rbx with 7, rbp and r12 above it, 7 everywhere. Then the
+/// other kinds, with and without registers, and with ignored bits.
+const PARSED_X86_64: [u32; 16] = [
+    0x0100_0000,
+    0x0100_0006,
+    0x0100_0007,
+    0x0105_58d1,
+    0x0105_2dc1,
+    0xf1ff_ffff,
+    0xf0ff_ffff,
+    0x0203_0800,
+    0xf2ff_facf,
+    0x0201_03ff,
+    0x0307_0405,
+    0xf3ff_fa00,
+    0x02ff_1ad0,
+    0x0300_1c00,
+    0x04ab_cdef,
+    0xffff_ffff,
+];
+
+/// The model's, and the Rust's as far as that tells it.
+fn parsed(out: &mut Files) -> Result<()> {
+    for word in PARSED_X86_64 {
+        let model = parse_x86_64(word);
+        let rust = same(|release| (release.parse_x86_64)(word));
+        agreed("a word", told::word(model), rust)?;
+        let first = [
+            model.value,
+            model.answer.into(),
+            model.stack_adjust_in_bytes.into(),
+            model.fields.into(),
+            model.field_states.into(),
+        ];
+        let numbers = first.into_iter().chain(model.popped_regs.map(u32::from));
+        let cases = [model.answer.into()];
+        let asked = u32s(&[word]);
+        out.record(&calls::PARSE_X86_64, &asked, &cases, numbers.map(u64::from));
+    }
+    Ok(())
 }
 
 /// Counts with lists that are refused: a count too large, a zero or another number too early, too

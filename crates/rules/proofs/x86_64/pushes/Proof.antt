@@ -1,6 +1,6 @@
 -- `rules::x86_64::pushes` meets its contract: each turn places one more register, and the last lies next to the return address.
 -- Assumes nothing.
-use Prim.Native.Nat.{_+_, _-_, _*_, _<_, _≤_}
+use Prim.Native.Nat.{_-_, _<_, _≤_}
 use mathlib.Core.Path.{_≡_, sym}
 use native.Mathlib.Omega.{arith}
 use borrow.Author.Needs.{needs}
