@@ -7,6 +7,9 @@ use native.Mathlib.Nat.{div-one, mod-lt, div-add-mod'}
 use native.Mathlib.Omega.{arith}
 use lib.Bits.{bitAnd, bitOr, and-block, and-mask, and-shr, or-shr, and-mod, or-mod, and-zero-r}
 use lib.Pow.{shr-shr}
+use lib.Dec.{eqb}
+use borrow.Author.Tests.{eqb-true}
+use Rattle.permutation.proofs.Tests.{below-at}
 use Rattle.opcodes.specs.Registers.{Told as Named, absent, register, unknown, stateOf, namedOf, fieldOf}
 use Rattle.opcodes.specs.Bits.{bits, kindOf}
 use Rattle.opcodes.specs.WordsX86.{Told, parseOf, numbersOf}
@@ -51,29 +54,27 @@ module _ (f : ℕ) where
   all-lowest : allOf f % 2 ≡ bitAnd (bitAnd (f % 2) (f / 2 % 2)) (f / 4 % 2)
   all-lowest = and-mod (bitAnd f (f / 2)) (f / 4) 1 ∙ rw (and-mod f (f / 2) 1) refl
 
-by-bits : (a b c : ℕ) → a < 2 → b < 2 → c < 2 → bitOr (bitOr a b) c + bitAnd (bitAnd a b) c ≡ stateOf (namedOf (a + 2 * b + 4 * c))
-by-bits zero zero zero x y z = refl
-by-bits (suc zero) zero zero x y z = refl
-by-bits zero (suc zero) zero x y z = refl
-by-bits (suc zero) (suc zero) zero x y z = refl
-by-bits zero zero (suc zero) x y z = refl
-by-bits (suc zero) zero (suc zero) x y z = refl
-by-bits zero (suc zero) (suc zero) x y z = refl
-by-bits (suc zero) (suc zero) (suc zero) x y z = refl
-by-bits (suc (suc a)) b c x y z = absurd (omega arith)
-by-bits zero (suc (suc b)) c x y z = absurd (omega arith)
-by-bits (suc zero) (suc (suc b)) c x y z = absurd (omega arith)
-by-bits zero zero (suc (suc c)) x y z = absurd (omega arith)
-by-bits (suc zero) zero (suc (suc c)) x y z = absurd (omega arith)
-by-bits zero (suc zero) (suc (suc c)) x y z = absurd (omega arith)
-by-bits (suc zero) (suc zero) (suc (suc c)) x y z = absurd (omega arith)
+-- a field's lowest bit goes by its own three bits, and eight numbers are tested
+module _ (f : ℕ) where
+  first : f % 8 % 2 ≡ f % 2
+  first = omega arith
 
-one-field : (f : ℕ) → anyOf f % 2 + allOf f % 2 ≡ stateOf (namedOf (f % 8))
-one-field f =
-    let high : f / 2 % 4 ≡ f / 2 % 2 + 2 * (f / 4 % 2) = omega arith in
-    let e : f % 2 + 2 * (f / 2 % 2) + 4 * (f / 4 % 2) ≡ f % 8 = omega (arith, high) in
-    rw (any-lowest f, all-lowest f) (by-bits (f % 2) (f / 2 % 2) (f / 4 % 2) (mod-lt f (omega arith)) (mod-lt (f / 2) (omega arith)) (mod-lt (f / 4) (omega arith)))
-    ∙ ap (λ (x : ℕ). stateOf (namedOf x)) e
+  second : f % 8 / 2 % 2 ≡ f / 2 % 2
+  second = omega arith
+
+  third : f % 8 / 4 % 2 ≡ f / 4 % 2
+  third = omega arith
+
+  any-alone : anyOf f % 2 ≡ anyOf (f % 8) % 2
+  any-alone = any-lowest f ∙ sym (any-lowest (f % 8) ∙ rw (first, second, third) refl)
+
+  all-alone : allOf f % 2 ≡ allOf (f % 8) % 2
+  all-alone = all-lowest f ∙ sym (all-lowest (f % 8) ∙ rw (first, second, third) refl)
+
+  one-field : anyOf f % 2 + allOf f % 2 ≡ stateOf (namedOf (f % 8))
+  one-field =
+      rw (any-alone, all-alone)
+      (eqb-true _ _ (below-at (λ (d : ℕ). eqb (anyOf d % 2 + allOf d % 2) (stateOf (namedOf d))) 8 refl (f % 8) (mod-lt f (omega arith))))
 
 pub states-at-once : (n f : ℕ) → bitAnd (anyOf f) (lowest n) + bitAnd (allOf f) (lowest n) ≡ statesFrom n f
 states-at-once zero f = rw (and-zero-r (anyOf f), and-zero-r (allOf f)) refl
@@ -121,3 +122,7 @@ fields-told w k e h = (
   ap (λ (t : Told). fieldOf k (x86Answer (numbersOf t) .«field_states»)) (of-kind 1 w e) ∙ state-at 5 k (bits 0 15 w) h
       ∙ ap (λ (x : ℕ). stateOf (namedOf x)) (field-in w k h),
 )
+
+-- so of the least word with an unknown field
+pub least-told : fieldOf 0 (x86Answer (numbersOf (parseOf 0x01000007)) .«field_states») ≡ 2
+least-told = fields-told 0x01000007 0 refl (omega arith) .1

@@ -39,7 +39,6 @@ pub within : (m k w : ℕ) → w % 2 ^ (m + 3 + k) / 2 ^ k % 8 ≡ bits k 3 w
 within m k w = ap (λ (x : ℕ). x % 8) (field w (m + 3) k) ∙ mod-mod-pow (w / 2 ^ k) m 3
 
 -- the fifteen bits have the word's fields
-
 pub fields-in : (w : ℕ) → fieldsIn (bits 0 15 w) ≡ fieldOf 0 w ∷ fieldOf 1 w ∷ fieldOf 2 w ∷ fieldOf 3 w ∷ fieldOf 4 w ∷ []
 fields-in w = simp (div-one w, within 12 0 w, within 9 3 w, within 6 6 w, within 3 9 w, within 0 12 w)
 

@@ -11,7 +11,7 @@ use Rattle.permutation.specs.Permutation as permutation
 use Rattle.permutation.specs.declared.Decoded.{Decoded}
 use Rattle.permutation.specs.declared.Decoded.the-variants.{Accepted, Refused}
 use Rattle.opcodes.specs.Bits.{bits, kindOf, specificOf}
-use Rattle.opcodes.specs.WordsX86.{Word, framelessImmediate, framelessIndirect, Told, beside, listing, parseOf, numbers, numbersOf, caseOf}
+use Rattle.opcodes.specs.WordsX86.{Word, null, frameBased, framelessImmediate, framelessIndirect, dwarf, invalidFrameless, unrecognized, Told, beside, listing, parseOf, numbers, numbersOf}
 use Rattle.opcodes.specs.declared.words_x86_64.«WordX86_64».{«WordX86_64»}
 use Rattle.opcodes.proofs.KindsX86.{of-kind, of-no-kind, listed, unlisted}
 
@@ -59,6 +59,17 @@ module _ (w : ℕ) (h : kindOf w / 2 ≡ 1) (rs : List ℕ) (d : Decoded)
   pub indirect : d ≡ Accepted → (w / 0x1000000 % 2 ≡ 0 → ⊥) → numbers 3 (bits 16 8 w) (8 * bits 13 3 w) 0 rs ≡ numbersOf (parseOf w)
   indirect p b = ap numbersOf (listed _ rs _ d t p ∙ sym (of-kind 3 w (omega (arith, h, b))))
 
+-- The case that has these numbers, as the code makes it: it cuts each number to its type.
+abbrev pub caseOf : (answer value adjust fields : ℕ) → Word
+caseOf a v d f =
+    cond (eqb a 0) null
+    (cond (eqb a 1) (frameBased (v % 65536) f)
+    (cond (eqb a 2) (framelessImmediate (v % 65536))
+    (cond (eqb a 3) (framelessIndirect (v % 256) d)
+    (cond (eqb a 4) (dwarf v)
+    (cond (eqb a 5) invalidFrameless
+    (unrecognized (v % 256)))))))
+
 abbrev back : «WordX86_64» → Told
 back n = beside (caseOf (n .answer) (n .value) (n .«stack_adjust_in_bytes») (n .fields)) (n .«saved_regs»)
 
@@ -86,7 +97,15 @@ numbers-back w = go (kindOf w) refl
         let small : suc (suc (suc (suc (suc k)))) % 256 ≡ suc (suc (suc (suc (suc k)))) = omega (arith, e) in
         rw (of-no-kind _ w e (λ z. omega arith) (λ z. omega arith) (λ z. omega arith) (λ z. omega arith) (λ z. omega arith), small) refl
 
--- as the code has it: the numbers, and the case that was made of them
-pub said : (w : ℕ) (n : «WordX86_64») (x : Word) → n ≡ numbersOf (parseOf w) → x ≡ caseOf (n .answer) (n .value) (n .«stack_adjust_in_bytes») (n .fields)
+-- so of the case that the code makes of numbers that are the word's
+pub case-said : (a v d f w : ℕ) → numbers a v d f (parseOf w .saved) ≡ numbersOf (parseOf w) → caseOf a v d f ≡ parseOf w .word
+case-said a v d f w e = ap (λ (n : «WordX86_64»). back n .word) e ∙ ap (λ (t : Told). t .word) (numbers-back w)
+
+-- and of the whole word, its list beside the case
+pub said : (w : ℕ) (n : «WordX86_64») (x : Word) → n ≡ numbersOf (parseOf w)
+    → (numbers (n .answer) (n .value) (n .«stack_adjust_in_bytes») (n .fields) (parseOf w .saved) ≡ numbersOf (parseOf w) → x ≡ parseOf w .word)
     → beside x (n .«saved_regs») ≡ parseOf w
-said w n x e q = ap {B = Told} (λ (y : Word). beside y (n .«saved_regs»)) q ∙ ap back e ∙ numbers-back w
+said w n x e q =
+    let list : n .«saved_regs» ≡ parseOf w .saved = ap (λ (t : Told). t .saved) (ap back e ∙ numbers-back w) in
+    let of-word = ap {B = «WordX86_64»} (λ (rs : List ℕ). numbers (n .answer) (n .value) (n .«stack_adjust_in_bytes») (n .fields) rs) (sym list) ∙ e in
+    ap {B = Told} (λ (y : Word). beside y (n .«saved_regs»)) (q of-word) ∙ ap {B = Told} (beside (parseOf w .word)) list

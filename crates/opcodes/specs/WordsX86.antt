@@ -1,6 +1,6 @@
 -- docs/FORMAT.md, 7.2: what an opcode word of x86_64 says.
 -- Assumes nothing.
-use Prim.Native.Nat.{ℕ, _*_, _%_}
+use Prim.Native.Nat.{ℕ, _*_}
 use mathlib.Core.Bool.{cond}
 use mathlib.Core.List.{List}
 use lib.Dec.{eqb}
@@ -11,7 +11,7 @@ use Rattle.opcodes.specs.declared.«x86_64».«OpcodeX86_64».{«OpcodeX
 use Rattle.opcodes.specs.declared.«x86_64».«ParsedX86_64».{«ParsedX86_64»}
 use Rattle.opcodes.specs.declared.words_x86_64.«WordX86_64».{«WordX86_64»}
 
--- The cases with their values. The five fields are one number, as they stand in the word (7.3).
+-- The cases with their values. The five fields are one number, as they stand in the word.
 pub data Word : Type 0 where
   null : Word
   frameBased : (offset fields : ℕ) → Word
@@ -83,14 +83,3 @@ inNumbers (unrecognized kind) saved = numbers 6 kind 0 0 saved
 
 abbrev pub numbersOf : Told → «WordX86_64»
 numbersOf t = inNumbers (t .word) (t .saved)
-
--- The case that has these numbers: the other way round. A size has 16 bits, a place and a kind 8.
-abbrev pub caseOf : (answer value adjust fields : ℕ) → Word
-caseOf a v d f =
-    cond (eqb a 0) null
-    (cond (eqb a 1) (frameBased (v % 65536) f)
-    (cond (eqb a 2) (framelessImmediate (v % 65536))
-    (cond (eqb a 3) (framelessIndirect (v % 256) d)
-    (cond (eqb a 4) (dwarf v)
-    (cond (eqb a 5) invalidFrameless
-    (unrecognized (v % 256)))))))

@@ -1,5 +1,6 @@
 // Opcode words of x86_64, and the registers that they list.
 ghost use mathlib.Core.Path.{_≡_};
+ghost use Prim.Native.Nat.{ℕ};
 ghost use Rattle.opcodes.specs.Registers.{namedOf, numberOf, dwarfOf, numberAt, fieldNamed, told};
 ghost use Rattle.opcodes.specs.WordsX86 as x86;
 use crate::words_x86_64::WordX86_64;
@@ -114,9 +115,9 @@ impl OpcodeX86_64 {
     }
 }
 
-// The case that has these numbers.
+// What a word says that has these numbers.
 fn case_of(answer: u8, value: u32, adjust: u8, fields: u16) -> OpcodeX86_64
-    ensures { λ r. ⌜ x86.wordOf r ≡ x86.caseOf answer value adjust fields ⌝ }
+    ensures { λ r. ⌜ ((w : ℕ) → x86.numbers answer value adjust fields (x86.parseOf w .saved) ≡ x86.numbersOf (x86.parseOf w) → x86.wordOf r ≡ x86.parseOf w .word) ⌝ }
 {
     match answer {
         0 => OpcodeX86_64::Null,

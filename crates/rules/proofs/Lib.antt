@@ -9,5 +9,6 @@ pub mod FramesX86
 pub mod FramesArm64
 pub mod Slots
 pub mod Unsound
+pub mod ListedStates
 pub mod One
 pub mod Examples
