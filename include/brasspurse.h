@@ -50,10 +50,10 @@ extern "C" {
 #endif
 
 /* This header's version. */
-#define BRASSPURSE_VERSION "0.6.0"
+#define BRASSPURSE_VERSION "0.6.1"
 #define BRASSPURSE_VERSION_MAJOR 0
 #define BRASSPURSE_VERSION_MINOR 6
-#define BRASSPURSE_VERSION_PATCH 0
+#define BRASSPURSE_VERSION_PATCH 1
 
 /* Refusals. 16 to 19 and 29 are not in use. */
 

@@ -14,7 +14,7 @@ pub struct Group {
 pub const GROUPS: [Group; 7] = [
     Group {
         head: "Decoding a permutation",
-        goal: Some(1.0),
+        goal: Some(2.0),
         rows: &[
             ("permutations, accepted", "accepted"),
             ("permutations, random", "many refused"),

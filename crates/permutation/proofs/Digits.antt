@@ -26,13 +26,13 @@ radix (zero ∷ ws) k b = eqb k 1 && (eqb b 1 && radix ws (pred k) 1)
 radix (suc v ∷ ws) k b = eqb b (k * suc v) && radix ws (pred k) (suc v)
 
 -- the first digit of a number below the bound is small, and what is left is below the next bound
-pub record Digit (w : ℕ) (ws : List ℕ) (k rest : ℕ) : Type 0 where
-  pub unit : ℕ
-  pub small : rest / w < k
-  pub left : rest % w < unit
-  pub next : radix ws (pred k) unit ≡ true
+record Digit (w : ℕ) (ws : List ℕ) (k rest : ℕ) : Type 0 where
+  unit : ℕ
+  small : rest / w < k
+  left : rest % w < unit
+  next : radix ws (pred k) unit ≡ true
 
-pub first-digit : (w : ℕ) (ws : List ℕ) (k b rest : ℕ) → radix (w ∷ ws) k b ≡ true → rest < b → Digit w ws k rest
+first-digit : (w : ℕ) (ws : List ℕ) (k b rest : ℕ) → radix (w ∷ ws) k b ≡ true → rest < b → Digit w ws k rest
 first-digit zero ws k b rest t h =
     let p = both-eq k 1 (eqb b 1 && radix ws (pred k) 1) t in
     let e = both-eq b 1 (radix ws (pred k) 1) (p .1) in
@@ -105,14 +105,6 @@ pub row-radix : (n : ℕ) → 0 < n → n ≤ 6 → radix (weights n) 6 (getD bo
 unfolding good rows bounds
 row-radix zero p h = absurd (omega arith)
 row-radix (suc n) p h = below-at good 6 refl n h
-
--- the first refused encoding is six first weights
-bounded : ℕ → Bool
-bounded n = eqb (6 * getD (getD rows n []) 0 0) (getD bounds n 0)
-
-pub row-bound : (n : ℕ) → n ≤ 6 → 6 * getD (getD rows n []) 0 0 ≡ getD bounds n 0
-unfolding bounded rows bounds
-row-bound n h = eqb-true (6 * getD (getD rows n []) 0 0) (getD bounds n 0) (below-at bounded 7 refl n (omega arith))
 
 long : ℕ → Bool
 long n = eqb (length (getD rows n [])) 6

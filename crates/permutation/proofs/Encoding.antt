@@ -13,7 +13,7 @@ use borrow.Author.Tests.{le-leb, lt-leb}
 use Rattle.permutation.specs.Permutation.{weights, weighted, named, before, without, ranks, member, every, Written, encoding, listed, encodingOf, encodeOf}
 use Rattle.permutation.specs.Flags.{unused, zeros}
 use Rattle.permutation.proofs.Choosing.{drawn, drawn-is}
-use Rattle.permutation.proofs.Flagged.{place-of, flag-says, before-says}
+use Rattle.permutation.proofs.Flagged.{used-up, flag-says, before-says}
 
 -- The first i of ys were drawn, and weighed into the sum; the rest is still to be drawn from the unused ones.
 pub record Turn (ws ys used : List ℕ) (sum i : ℕ) : Type 0 where
@@ -36,14 +36,13 @@ module _ (ws ys used : List ℕ) (sum i : ℕ) (t : Turn ws ys used sum i) (wl :
       → Turn ws ys (set used x 1) (sum + getD ws i 0 * rank) (suc i)
   next x rank ex xl e er r6 w120 =
       let xu : x < length used = omega (arith, t .flags) in
-      let p = place-of 1 used x xu e in
       let one : 1 + x ≡ getD ys i 0 = omega arith in
       let m : member (getD ys i 0) (unused used) ≡ true =
       subst (λ (v : ℕ). member v (unused used) ≡ true) one (flag-says 1 used x xu ∙ ap (λ (v : ℕ). eqb v 0) e) in
       let b : before (unused used) (getD ys i 0) ≡ zeros (take x used) =
       subst (λ (v : ℕ). before (unused used) v ≡ zeros (take x used)) one (before-says 1 used x xu e) in
       let u : without (unused used) (before (unused used) (getD ys i 0)) ≡ unused (set used x 1) =
-      ap (without (unused used)) b ∙ sym (p .used) in
+      ap (without (unused used)) b ∙ sym (used-up 1 used x xu e) in
       let rest : List ℕ = ranks (unused (set used x 1)) (drop (suc i) ys) in
       let ranked : ranks (unused used) (drop i ys) ≡ rank ∷ rest =
       ap (ranks (unused used)) (drop-cons ys i 0 h)

@@ -5,40 +5,21 @@ use mathlib.Core.Path.{_≡_, refl, ap, sym, _∙_}
 use mathlib.Core.Bool.{true, false}
 use mathlib.Core.List.{List, [], _∷_}
 use native.Mathlib.Omega.{arith}
-use native.Mathlib.Nat.{le-of-suc-le-suc, not-suc-le-zero, add-zero}
+use native.Mathlib.Nat.{le-of-suc-le-suc, not-suc-le-zero}
 use lib.Dec.{eqb}
 use lib.ListN.{length, getD, set, take}
-use lib.Seq.{take-all}
 use native.Mathlib.Decide.{decLe, decLt}
 use borrow.Author.Tests.{eq-eqb, ne-eqb, eqb-true}
 use Rattle.permutation.specs.Permutation.{without, before, member}
 use Rattle.permutation.specs.Flags.{unusedFrom, unused, zeros}
 
-pub length-unused : (r : ℕ) (fs : List ℕ) → length (unusedFrom r fs) ≡ zeros fs
-length-unused r [] = refl
-length-unused r (zero ∷ fs) = ap suc (length-unused (suc r) fs)
-length-unused r (suc f ∷ fs) = length-unused (suc r) fs
-
--- the register of an unused place p: its digit is how many places before p are unused
-pub record Place (r : ℕ) (fs : List ℕ) (p : ℕ) : Type 0 where
-  pub there : getD (unusedFrom r fs) (zeros (take p fs)) 0 ≡ r + p
-  pub used : unusedFrom r (set fs p 1) ≡ without (unusedFrom r fs) (zeros (take p fs))
-  pub small : zeros (take p fs) < zeros fs
-
-pub place-of : (r : ℕ) (fs : List ℕ) (p : ℕ) → p < length fs → getD fs p 0 ≡ 0 → Place r fs p
-place-of r [] p h e = absurd (not-suc-le-zero h)
-place-of r (zero ∷ fs) zero h e = record { there = sym (add-zero r); used = refl; small = omega arith }
-place-of r (suc f ∷ fs) zero h e = absurd (omega arith)
-place-of r (zero ∷ fs) (suc p) h e =
-    let i = place-of (suc r) fs p (le-of-suc-le-suc h) e in
-    record {
-      there = i .there ∙ omega arith;
-      used = ap (λ (l : List ℕ). r ∷ l) (i .used);
-      small = omega (arith, i .small);
-    }
-place-of r (suc f ∷ fs) (suc p) h e =
-    let i = place-of (suc r) fs p (le-of-suc-le-suc h) e in
-    record { there = i .there ∙ omega arith; used = i .used; small = i .small }
+-- once an unused place p is used, its register is gone: as many are unused before it as places before p are
+pub used-up : (r : ℕ) (fs : List ℕ) (p : ℕ) → p < length fs → getD fs p 0 ≡ 0 → unusedFrom r (set fs p 1) ≡ without (unusedFrom r fs) (zeros (take p fs))
+used-up r [] p h e = absurd (not-suc-le-zero h)
+used-up r (zero ∷ fs) zero h e = refl
+used-up r (suc f ∷ fs) zero h e = absurd (omega arith)
+used-up r (zero ∷ fs) (suc p) h e = ap (λ (l : List ℕ). r ∷ l) (used-up (suc r) fs p (le-of-suc-le-suc h) e)
+used-up r (suc f ∷ fs) (suc p) h e = used-up (suc r) fs p (le-of-suc-le-suc h) e
 
 -- one place more
 pub zeros-more : (fs : List ℕ) (p : ℕ) → p < length fs → getD fs p 0 ≡ 0 → zeros (take (suc p) fs) ≡ suc (zeros (take p fs))
@@ -54,9 +35,6 @@ zeros-same (zero ∷ fs) zero h e = absurd (e refl)
 zeros-same (suc f ∷ fs) zero h e = refl
 zeros-same (zero ∷ fs) (suc p) h e = ap suc (zeros-same fs p (le-of-suc-le-suc h) e)
 zeros-same (suc f ∷ fs) (suc p) h e = zeros-same fs p (le-of-suc-le-suc h) e
-
-pub zeros-all : (fs : List ℕ) (p : ℕ) → length fs ≤ p → zeros (take p fs) ≡ zeros fs
-zeros-all fs p h = ap zeros (take-all p fs h)
 
 -- registers before the first flag's, and after the last flag's, are not among the unused
 pub not-before : (r x : ℕ) (fs : List ℕ) → x < r → member x (unusedFrom r fs) ≡ false

@@ -1,6 +1,6 @@
 -- What holds of the decoder's and the encoder's definitions, each once over the count.
 -- Assumes nothing.
-use Prim.Native.Nat.{ℕ, zero, suc, _-_, _*_, _<_, _≤_}
+use Prim.Native.Nat.{ℕ, zero, suc, _-_, _<_, _≤_}
 use mathlib.Core.Path.{_≡_, refl, ap, sym, _∙_, subst}
 use mathlib.Core.Bool.{Bool, true, false, cond, _&&_, _||_}
 use mathlib.Core.List.{List, [], _∷_, _++_}
@@ -9,9 +9,9 @@ use lib.Dec.{eqb, leb, ltb}
 use lib.ListN.{length, getD, take, drop, replicate, length-drop, take-append-drop}
 use lib.Seq.{take-at, drop-at, length-take-le}
 use borrow.Author.Tests.{le-leb, lt-leb, lt-ltb, ne-eqb, leb-true, ltb-true, eqb-true}
-use Rattle.permutation.specs.Permutation.{rows, bounds, weights, digits, weighted, named, chosen, ranks, member, every, distinct, Told, accepted, accepts, registersOf, decodeOf, Written, encoding, listed, encodingOf, encodeOf}
+use Rattle.permutation.specs.Permutation.{bounds, weights, digits, weighted, named, chosen, ranks, member, every, distinct, Told, accepted, accepts, registersOf, decodeOf, Written, encoding, listed, encodingOf, encodeOf}
 use Rattle.permutation.proofs.Tests.{both-left, both-right}
-use Rattle.permutation.proofs.Digits.{row-bound, Small, radix, digits-small, sum-of-digits, length-digits, weighed, row-radix, weights-long}
+use Rattle.permutation.proofs.Digits.{Small, radix, digits-small, sum-of-digits, length-digits, weighed, row-radix, weights-long}
 use Rattle.permutation.proofs.Choosing.{drawn, ranks-chosen, Ranked, ranked, drawn-chosen, drawn-is, length-chosen, length-ranks}
 
 -- The encodings that are not refused (docs/FORMAT.md, 8.1): counts up to 6, and below the bound; count 0 refuses none.
@@ -35,10 +35,6 @@ below-accepted n e t =
           ltb-true e (getD bounds n 0)
           (simp (ne-eqb n 0 (omega arith)) at (both-right (leb n 6) (eqb n 0 || ltb e (getD bounds n 0)) t));
     }
-
--- as the code tests it: by six first weights
-pub accepts-first : (n e : ℕ) → n ≤ 6 → accepts n e ≡ (eqb n 0 || ltb e (6 * getD (getD rows n []) 0 0))
-accepts-first n e h = simp (le-leb n 6 h, row-bound n h)
 
 decode-cases : (n e : ℕ) (xs : List ℕ) → decodeOf n e ≡ accepted xs → (accepts n e ≡ true) × (registersOf n e ≡ xs)
 unfolding decodeOf

@@ -5,6 +5,7 @@ pub mod Flagged
 pub mod Laws
 pub mod Lists
 pub mod One
-pub mod Decoding
+pub mod Octal
+pub mod Beginnings
 pub mod Encoding
 pub mod Examples

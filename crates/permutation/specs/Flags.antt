@@ -1,5 +1,4 @@
--- What the code keeps, for the contracts of helpers (docs/FORMAT.md, 8.2 and 8.3): a flag for each register from 1 on, 0 where it is unused, and
--- the steps of a scan.
+-- What the encoder keeps, for the contracts of helpers (docs/FORMAT.md, 8.3): a flag for each register from 1 on, 0 where it is unused.
 -- Assumes nothing.
 use Prim.Native.Nat.{ℕ, zero, suc}
 use mathlib.Core.List.{List, [], _∷_}
@@ -18,8 +17,3 @@ abbrev pub zeros : List ℕ → ℕ
 zeros [] = 0
 zeros (zero ∷ fs) = suc (zeros fs)
 zeros (suc f ∷ fs) = zeros fs
-
--- the weight that a digit is counted down by: a weight 0 belongs to a digit that is 0, and any step will do
-abbrev pub stepOf : ℕ → ℕ
-stepOf zero = 1
-stepOf (suc w) = suc w

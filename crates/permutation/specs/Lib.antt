@@ -1,2 +1,3 @@
 pub mod Permutation
 pub mod Flags
+pub mod Table

@@ -1,11 +1,14 @@
 // The permutation field of a frameless word: which registers were pushed, and in what order.
-ghost use mathlib.Core.Bool.{_||_};
 ghost use mathlib.Core.Path.{_≡_};
-ghost use Prim.Native.Nat.{suc, _*_, _≤_, _<_};
+ghost use Prim.Native.Nat.{suc, _≤_, _<_};
 ghost use lib.ListN.{take, drop, replicate};
-ghost use lib.Dec.{eqb, ltb};
+ghost use lib.Dec.{eqb};
 ghost use Rattle.permutation.specs.Permutation.{Told, decodeOf, encodeOf, told, toldEncoded, decodedNumber, encodedNumber, member, every};
-ghost use Rattle.permutation.specs.Flags.{unused, zeros, stepOf};
+ghost use Rattle.permutation.specs.Flags.{unused, zeros};
+ghost use Rattle.permutation.specs.Table.{apartOf, keptOf, placesOf};
+use table::row;
+
+mod table;
 
 // The weights of the digits, by the count of registers. Bytes, since a constant array is laid out anew where it is used.
 pub const WEIGHTS: [[u8; 6]; 7] = [
@@ -62,36 +65,62 @@ pub fn decode_permutation_6(count: u32, encoding: u32) -> Permutation
     if 6 < count {
         return refused();
     }
-    let n = count as usize;
-    let row = WEIGHTS[n];
-    if !is_below(n, encoding, row[0]) {
+    let at = (encoding as usize) * apart(count);
+    if 720 <= at {
         return refused();
-    }
-    let mut registers = [0u8; 6];
-    let mut used = [0u8; 6];
-    let mut rest = encoding;
-    let mut i = 0;
-    while i < n {
-        let step = step_of(row[i]);
-        let mut r = 0;
-        // The digit is counted down as its weight is taken off, so nothing is divided.
-        let found = loop {
-            if used[r] == 0 {
-                if rest < step {
-                    break r;
-                }
-                rest -= step;
-            }
-            r += 1;
-        };
-        used[found] = 1;
-        registers[i] = (found + 1) as u8;
-        i += 1;
     }
     Permutation {
         decoded: Decoded::Accepted,
-        registers,
+        registers: places(row(at) & kept(count)),
     }
+}
+
+// How far apart the rows of neighbouring encodings are. For speed every count has its arm: those left to the last would be told by a jump.
+fn apart(count: u32) -> usize
+    requires { ⌜ count ≤ 6 ⌝ }
+    ensures { λ r. ⌜ r ≡ apartOf count ⌝ }
+{
+    match count {
+        0 => 0,
+        1 => 120,
+        2 => 24,
+        3 => 6,
+        4 => 2,
+        5 => 1,
+        6 => 1,
+        _ => 0,
+    }
+}
+
+// The places of a row that are registers of the list.
+fn kept(count: u32) -> u64
+    requires { ⌜ count ≤ 6 ⌝ }
+    ensures { λ r. ⌜ r ≡ keptOf count ⌝ }
+{
+    match count {
+        0 => 0o000000,
+        1 => 0o700000,
+        2 => 0o770000,
+        3 => 0o777000,
+        4 => 0o777700,
+        5 => 0o777770,
+        6 => 0o777777,
+        _ => 0,
+    }
+}
+
+// The last six places of a number, one to a byte.
+fn places(x: u64) -> [u8; 6]
+    ensures { λ r. ⌜ r ≡ placesOf 6 x ⌝ }
+{
+    [
+        (x / 0o100000 % 8) as u8,
+        (x / 0o10000 % 8) as u8,
+        (x / 0o1000 % 8) as u8,
+        (x / 0o100 % 8) as u8,
+        (x / 0o10 % 8) as u8,
+        (x % 8) as u8,
+    ]
 }
 
 fn refused() -> Permutation
@@ -101,23 +130,6 @@ fn refused() -> Permutation
         decoded: Decoded::Refused,
         registers: [0u8; 6],
     }
-}
-
-// The first digit is up to 5, so the first refused encoding is six times the first weight. Count 0 refuses none.
-fn is_below(n: usize, encoding: u32, first: u8) -> bool
-    ensures { λ r. ⌜ r ≡ (eqb n 0 || ltb encoding (6 * first)) ⌝ }
-{
-    if n == 0 {
-        return true;
-    }
-    encoding < 6 * wide(first)
-}
-
-// What is taken off for each unused register passed.
-fn step_of(weight: u8) -> u32
-    ensures { λ r. ⌜ r ≡ stepOf weight ⌝ }
-{
-    if weight == 0 { 1 } else { weight as u32 }
 }
 
 pub fn encode_permutation_6(count: u32, registers: [u8; 6]) -> Encoded
