@@ -53,8 +53,8 @@ whole : (n : ℕ) → n < 6 → getD bounds (suc n) 0 * apartOf (suc n) ≡ 720
 unfolding bounds
 whole = each-at (λ n. getD bounds (suc n) 0 * apartOf (suc n) ≡ 720) 6 (refl, (refl, (refl, (refl, (refl, (refl, tt))))))
 
-some : (n : ℕ) → n < 6 → 0 < apartOf (suc n)
-some n h = go (apartOf (suc n)) (whole n h)
+apart-positive : (n : ℕ) → n < 6 → 0 < apartOf (suc n)
+apart-positive n h = go (apartOf (suc n)) (whole n h)
   where
     go : (s : ℕ) → getD bounds (suc n) 0 * s ≡ 720 → 0 < s
     go zero e = absurd (omega (arith, mul-zero (getD bounds (suc n) 0)))
@@ -70,7 +70,7 @@ begins (suc n) e h =
     ∙ ap (chosen named)
     (first-digits (suc n) (weights 6) (e * s)
     ∙ ap₂ digits (weights-times (suc n) (omega arith)) (mul-comm e s)
-    ∙ digits-times s (some n h) (weights (suc n)) e)
+    ∙ digits-times s (apart-positive n h) (weights (suc n)) e)
 
 -- The registers of an encoding are the first places of its row, and zeros.
 pub by-row : (n e : ℕ) → n ≤ 6 → registersOf n e ≡ take n (registersOf 6 (e * apartOf n)) ++ replicate (6 - n) 0
@@ -84,7 +84,7 @@ accepts-by-row (suc n) e h =
     let b : ℕ = getD bounds (suc n) 0 in
     let s : ℕ = apartOf (suc n) in
     let below : e < b → ltb e b ≡ ltb (e * s) 720 =
-    λ l. lt-ltb e b l ∙ sym (lt-ltb (e * s) 720 (omega (arith, mul-lt-mul-of-pos-right l (some n h), whole n h))) in
+    λ l. lt-ltb e b l ∙ sym (lt-ltb (e * s) 720 (omega (arith, mul-lt-mul-of-pos-right l (apart-positive n h), whole n h))) in
     let above : b ≤ e → ltb e b ≡ ltb (e * s) 720 =
     λ l. le-ltb e b l ∙ sym (le-ltb (e * s) 720 (omega (arith, mul-le-mul-right {m = b} {n = e} s l, whole n h))) in
     simp (le-leb (suc n) 6 h, ne-eqb (suc n) 0 (omega arith)) (go (decLt e b) below above)

@@ -35,16 +35,16 @@ and-places zero x y = refl
 and-places (suc n) x y =
     ap₂ (λ (d : ℕ) (ds : List ℕ). d ∷ ds) (ap (λ (k : ℕ). k % 8) (and-shr x y (3 * n)) ∙ and-mod (x / 2 ^ (3 * n)) (y / 2 ^ (3 * n)) 3) (and-places n x y)
 
--- places that are kept, and places that are not
-none : (m x : ℕ) → ands (placesOf m x) (replicate m 0) ≡ replicate m 0
-none zero x = refl
-none (suc m) x = ap₂ (λ (d : ℕ) (ds : List ℕ). d ∷ ds) (and-zero-r (x / 2 ^ (3 * m) % 8)) (none m x)
+-- a mask without places, and one of the first n
+all-dropped : (m x : ℕ) → ands (placesOf m x) (replicate m 0) ≡ replicate m 0
+all-dropped zero x = refl
+all-dropped (suc m) x = ap₂ (λ (d : ℕ) (ds : List ℕ). d ∷ ds) (and-zero-r (x / 2 ^ (3 * m) % 8)) (all-dropped m x)
 
-some : (n m x : ℕ) → ands (placesOf (n + m) x) (replicate n 7 ++ replicate m 0) ≡ take n (placesOf (n + m) x) ++ replicate m 0
-some zero m x = rw (zero-add m) (none m x)
-some (suc n) m x =
-    let d : ℕ = x / 2 ^ (3 * (n + m)) in
-    rw (suc-add n m) (ap₂ (λ (d : ℕ) (ds : List ℕ). d ∷ ds) (and-mask (d % 8) 3 ∙ mod-mod d 8) (some n m x))
+first-kept : (n m x : ℕ) → ands (placesOf (n + m) x) (replicate n 7 ++ replicate m 0) ≡ take n (placesOf (n + m) x) ++ replicate m 0
+first-kept zero m x = rw (zero-add m) (all-dropped m x)
+first-kept (suc n) m x =
+    let digits : ℕ = x / 2 ^ (3 * (n + m)) in
+    rw (suc-add n m) (ap₂ (λ (d : ℕ) (ds : List ℕ). d ∷ ds) (and-mask (digits % 8) 3 ∙ mod-mod digits 8) (first-kept n m x))
 
 masks : (n : ℕ) → n < 7 → placesOf 6 (keptOf n) ≡ replicate n 7 ++ replicate (6 - n) 0
 masks = each-at (λ n. placesOf 6 (keptOf n) ≡ replicate n 7 ++ replicate (6 - n) 0) 7 (refl, (refl, (refl, (refl, (refl, (refl, (refl, tt)))))))
@@ -54,7 +54,7 @@ pub kept-places : (n x : ℕ) → n ≤ 6 → placesOf 6 (bitAnd x (keptOf n)) �
 kept-places n x h =
     let six : n + (6 - n) ≡ 6 = omega arith in
     let kept : ℕ → Type 0 = λ k. ands (placesOf k x) (replicate n 7 ++ replicate (6 - n) 0) ≡ take n (placesOf k x) ++ replicate (6 - n) 0 in
-    and-places 6 x (keptOf n) ∙ ap (ands (placesOf 6 x)) (masks n (omega arith)) ∙ subst kept six (some n (6 - n) x)
+    and-places 6 x (keptOf n) ∙ ap (ands (placesOf 6 x)) (masks n (omega arith)) ∙ subst kept six (first-kept n (6 - n) x)
 
 -- One row of three.
 pub one-of-three : (x at i : ℕ) → i < 3 → placesOf 18 x ≡ threeFrom at → placesOf 6 (x / 2 ^ (18 * (2 - i))) ≡ registersOf 6 (at + i)
