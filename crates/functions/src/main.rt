@@ -1,5 +1,6 @@
 // Lists the functions of a section that comes on standard input. A byte more than is listed is read, so that more are refused.
 // Where a read fails, a line on standard error says why, and nothing is listed.
+#![tactic(auto)]
 use libc::STDIN_FILENO;
 
 fn main() {

@@ -1,4 +1,5 @@
 // The permutation field of a frameless word: which registers were pushed, and in what order.
+#![tactic(auto)]
 ghost use Rattle.std.specs.Prelude.{◌≡◌, suc, ◌≤◌, ◌<◌, take, drop, replicate, eqb};
 ghost use Rattle.permutation.specs.Permutation.{Told, decode_of, encode_of, told, told_encoded, decoded_number, encoded_number, member, every};
 ghost use Rattle.permutation.specs.Flags.{unused, zeros};

@@ -1,4 +1,5 @@
 // A section's lists and pages.
+#![tactic(auto)]
 ghost use Rattle.std.specs.Prelude.{◌≡◌, ◌+◌, ◌*◌, ◌≤◌, ◌<◌, length, drop};
 ghost use Rattle.reader.specs.Reader.{granted_of, slice_told, part_at};
 ghost use Rattle.raw.specs.Checked.{number_of};

@@ -1,4 +1,6 @@
 // Little-endian numbers in a slice of bytes, at any offset and alignment.
+#![tactic(auto)]
+
 ghost use Rattle.std.specs.Prelude.{◌≡◌, ◌+◌, ◌≤◌, ◌<◌, length, [], ◌∷◌};
 ghost use Rattle.reader.specs.Reader.{number_at, granted_of, read_of, word_at, slice_told, part_in, told16, told32, told64};
 

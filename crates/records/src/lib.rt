@@ -1,5 +1,6 @@
 // What the replays share: numbers of a record, whether an answer is the recorded one, how many are not, and what a replay writes. What is missing
 // of a record is 0.
+#![tactic(auto)]
 ghost use Rattle.std.specs.Prelude.{◌≡◌, ◌&&◌, length, if◌then◌else◌};
 ghost use Rattle.reader.specs.Reader.{word_at};
 ghost use Rattle.records.specs.Records.{numbers_of, same_of, counted_of};

@@ -10,6 +10,7 @@
 // the Rust's, and never our own; where both answer, they say the same. Both files were made by
 //
 //   compare/run record-exports crates/replay_exports
+#![tactic(auto)]
 use libc::{STDIN_FILENO, STDOUT_FILENO};
 use reader::{part, u32_or_0};
 

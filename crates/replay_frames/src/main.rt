@@ -15,6 +15,7 @@
 // account gives the same answer for the real ones too. It was made by
 //
 //   compare/run record-frames crates/replay_frames/stdin
+#![tactic(auto)]
 use answers::is_ours;
 use libc::STDIN_FILENO;
 use reader::{part, u32_or_0};

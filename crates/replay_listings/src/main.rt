@@ -7,6 +7,7 @@
 // listings in `stdout` are the second reader's (compare/src/model.rs). Both were made by
 //
 //   compare/run record-listings crates/replay_listings
+#![tactic(auto)]
 use libc::STDIN_FILENO;
 
 fn main() {

@@ -17,6 +17,7 @@
 //   compare/run record crates/replay_opcodes/stdin
 //
 // which asks release 0.5.0, and stops if 0.3.0 says something else.
+#![tactic(auto)]
 use answers::answer;
 use libc::STDIN_FILENO;
 use reader::{part, u32_or_0};

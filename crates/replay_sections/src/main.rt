@@ -18,6 +18,7 @@
 // the second reader's, which is written from docs/FORMAT.md's rules and not from this code (compare/src/model.rs). It was made by
 //
 //   compare/run record-sections crates/replay_sections/stdin
+#![tactic(auto)]
 use answers::answer;
 use libc::STDIN_FILENO;
 use reader::{part, u32_or_0};

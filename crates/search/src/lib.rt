@@ -1,4 +1,5 @@
 // The layouts of a list's entries with their numbers, and one bisection over such a list; `four` has four side by side.
+#![tactic(auto)]
 pub mod four;
 
 ghost use Rattle.std.specs.Prelude.{◌≡◌, cond, ◌+◌, ◌*◌, ◌≤◌, length};

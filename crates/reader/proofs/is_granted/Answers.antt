@@ -7,26 +7,19 @@ use Prim.Native.Nat.{◌+◌}
 use borrow.Author.Tests.{lt-leb, le-leb}
 use lib.ListN.{length}
 use Rattle.reader.specs.Reader.{granted_of}
-use Rattle.reader.proofs.is_granted.Statement.{statement}
-use Rattle.reader.proofs.is_granted.Tie as tie
+use Rattle.reader.proofs.is_granted.Goals as goal
 
-returns : tie.Need-returns
+pub returns-then-s-n : goal.returns-then-s-n
 unfolding granted_of
-returns c =
-    let a = c.before.args in
+returns-then-s-n c = let a = c.args in
     sym (lt-leb (a.offset + a.n) (length a.s.now) (omega arith))
 
-returns-2 : tie.Need-returns-2
+pub returns-then-s-n-2 : goal.returns-then-s-n-2
 unfolding granted_of
-returns-2 c =
-    let a = c.before.before.args in
+returns-then-s-n-2 c = let a = c.args in
     sym (lt-leb (a.offset + a.n) (length a.s.now) (omega arith))
 
-returns-3 : tie.Need-returns-3
+pub returns : goal.returns
 unfolding granted_of
-returns-3 c =
-    let a = c.before.before.args in
+returns c = let a = c.args in
     sym (le-leb (a.offset + a.n) (length a.s.now) (omega arith))
-
-pub is-granted-spec : {M : Type 1} → statement M
-is-granted-spec = tie.close (tie.spec returns (λ c. search rules) returns-2 returns-3)
