@@ -16,7 +16,7 @@ mod pages;
 
 // An answer: start, end, opcode, page and index of the function; then its opcode's origin, and above it the probes; above both 1 for a
 // function, 2 for a refusal with its number above that.
-#[derive(Drop)]
+#[derive(Clone, Copy)]
 pub(crate) struct Numbers {
     pub start: u32,
     pub end: u32,

@@ -9,14 +9,14 @@ use raw::{Kind, Lists, Opened, Page};
 use search::Spot;
 
 // The page of an address, and the probes of its search. Where there is none it has no functions.
-#[derive(Drop)]
+#[derive(Clone, Copy)]
 pub(crate) struct PageFound {
     pub place: Place,
     pub probes: u32,
 }
 
 // The pages of four addresses.
-#[derive(Drop)]
+#[derive(Clone, Copy)]
 pub(crate) struct Pages {
     pub a: PageFound,
     pub b: PageFound,

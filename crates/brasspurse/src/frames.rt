@@ -14,7 +14,7 @@ use step::x86_64::RegistersX86_64;
 
 // refusal is 0, or 20 to 25 with value DWARF's 24 bits for 21, the kind for 22, and every other number 0. cfa_register is 0 for rsp, 1 for rbp.
 #[repr(C)]
-#[derive(Drop)]
+#[derive(Clone, Copy)]
 pub struct RuleX86_64Answer {
     pub refusal: u32,
     pub value: u32,
@@ -25,7 +25,7 @@ pub struct RuleX86_64Answer {
 
 // The same with 20 to 22 alone; cfa_register is 0 for sp, 1 for x29.
 #[repr(C)]
-#[derive(Drop)]
+#[derive(Clone, Copy)]
 pub struct RuleArm64Answer {
     pub refusal: u32,
     pub value: u32,
@@ -36,7 +36,7 @@ pub struct RuleArm64Answer {
 
 // refusal is 0, or 20 to 27 with the registers as they were, on arm64 without 23 to 25; value as in a rule.
 #[repr(C)]
-#[derive(Drop)]
+#[derive(Clone, Copy)]
 pub struct StepX86_64Answer {
     pub refusal: u32,
     pub value: u32,
@@ -44,7 +44,7 @@ pub struct StepX86_64Answer {
 }
 
 #[repr(C)]
-#[derive(Drop)]
+#[derive(Clone, Copy)]
 pub struct StepArm64Answer {
     pub refusal: u32,
     pub value: u32,

@@ -7,7 +7,7 @@ use permutation::Encoded;
 
 // refusal is 0, or 23 with every register 0.
 #[repr(C)]
-#[derive(Drop)]
+#[derive(Clone, Copy)]
 pub struct PermutationAnswer {
     pub refusal: u32,
     pub registers: [u8; 6],
@@ -15,7 +15,7 @@ pub struct PermutationAnswer {
 
 // refusal is 0, or 28 with encoding 0.
 #[repr(C)]
-#[derive(Drop)]
+#[derive(Clone, Copy)]
 pub struct EncodingAnswer {
     pub refusal: u32,
     pub encoding: u32,

@@ -7,7 +7,7 @@ use reader::{Read16, Read32, Read64};
 
 // granted is 1, or 0 with value 0.
 #[repr(C)]
-#[derive(Drop)]
+#[derive(Clone, Copy)]
 pub struct ReadAnswer {
     pub granted: u32,
     pub value: u64,

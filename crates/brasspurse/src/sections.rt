@@ -16,7 +16,7 @@ use raw::{Lists, Parsed};
 
 // refusal is 0, or 1, 15, 2 or 3 with every other number 0.
 #[repr(C)]
-#[derive(Drop)]
+#[derive(Clone, Copy)]
 pub struct ParseAnswer {
     pub refusal: u32,
     pub global_opcodes_offset: u32,
@@ -26,7 +26,7 @@ pub struct ParseAnswer {
 }
 
 #[repr(C)]
-#[derive(Drop)]
+#[derive(Clone, Copy)]
 pub struct RangeAnswer {
     pub refusal: u32,
     pub start: u32,
@@ -35,7 +35,7 @@ pub struct RangeAnswer {
 
 // outcome is 0 for none, 1 for a function, 2 for a refusal with its number; page and index are the function's, and a cursor.
 #[repr(C)]
-#[derive(Drop)]
+#[derive(Clone, Copy)]
 pub struct LookupAnswer {
     pub start: u32,
     pub end: u32,
@@ -50,7 +50,7 @@ pub struct LookupAnswer {
 
 // outcome is 0 for the end, 1 for a function, 2 for a refusal with its number; page and index are the cursor for the next call.
 #[repr(C)]
-#[derive(Drop)]
+#[derive(Clone, Copy)]
 pub struct NextAnswer {
     pub start: u32,
     pub end: u32,
@@ -66,7 +66,7 @@ pub struct NextAnswer {
 
 // outcome is 0 for the end, 1 where the list is full, 2 for a refusal with its number; 1, 15, 2 and 3 are refused whatever the room.
 #[repr(C)]
-#[derive(Drop)]
+#[derive(Clone, Copy)]
 pub struct FillAnswer {
     pub functions: usize,
     pub page: u32,

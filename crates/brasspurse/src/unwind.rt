@@ -12,7 +12,7 @@ use step::x86_64::RegistersX86_64;
 // refusal is 0, or the lookup's 1 to 15, or the step's 20 to 27, 20 also where no function is found; then the registers are as they were.
 // value is DWARF's 24 bits for 21, the kind for 22, else 0. probes: the entries that the lookup probed.
 #[repr(C)]
-#[derive(Drop)]
+#[derive(Clone, Copy)]
 pub struct UnwindX86_64Answer {
     pub refusal: u32,
     pub value: u32,
@@ -21,7 +21,7 @@ pub struct UnwindX86_64Answer {
 }
 
 #[repr(C)]
-#[derive(Drop)]
+#[derive(Clone, Copy)]
 pub struct UnwindArm64Answer {
     pub refusal: u32,
     pub value: u32,

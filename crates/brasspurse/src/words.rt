@@ -13,7 +13,7 @@ use opcodes::x86_64::{Named, RegisterNameX86_64};
 
 // state is 0 absent, 1 a register, 2 unknown.
 #[repr(C)]
-#[derive(Drop)]
+#[derive(Clone, Copy)]
 pub struct RegisterAnswer {
     pub state: u32,
     pub number: u32,
@@ -22,7 +22,7 @@ pub struct RegisterAnswer {
 
 // As the word has it in numbers; field k and its state, as in a RegisterAnswer, are bits 3k to 3k + 2.
 #[repr(C)]
-#[derive(Drop)]
+#[derive(Clone, Copy)]
 pub struct OpcodeX86_64Answer {
     pub value: u32,
     pub answer: u8,

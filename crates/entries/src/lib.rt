@@ -12,7 +12,7 @@ use raw::{Error, Kind, Page};
 use search::Layout;
 
 // Where an opcode stands: in the function's own entry of a regular page, in the section's global list, or in the page's local one.
-#[derive(Drop)]
+#[derive(Clone, Copy)]
 pub enum Origin {
     Regular,
     Global,
@@ -34,7 +34,7 @@ impl Origin {
 
 // Page and index are the cursor at which iteration answers this function. The order is for speed: values that stand side by side here and in
 // a flat answer are loaded at once, and have to wait where each was stored by itself.
-#[derive(Drop)]
+#[derive(Clone, Copy)]
 pub struct Function {
     pub start_address: u32,
     pub opcode: u32,
@@ -44,14 +44,14 @@ pub struct Function {
     pub index: u32,
 }
 
-#[derive(Drop)]
+#[derive(Clone, Copy)]
 pub enum Answer {
     Function(Function),
     Refused(Error),
 }
 
 // A page's place: its index, its offset in the section, the next page's first address, and what it was read as. Any numbers.
-#[derive(Drop)]
+#[derive(Clone, Copy)]
 pub struct Place {
     pub index: u32,
     pub offset: u32,
@@ -59,14 +59,14 @@ pub struct Place {
     pub page: Page,
 }
 
-#[derive(Drop)]
+#[derive(Clone, Copy)]
 enum Resolved {
     Opcode { opcode: u32, origin: Origin },
     Refused(Error),
 }
 
 // An entry's first word, and where its function starts.
-#[derive(Drop)]
+#[derive(Clone, Copy)]
 struct Entry {
     pub word: u32,
     pub start: u64,

@@ -10,7 +10,7 @@ use iterate::Cursor;
 use raw::{Error, Lists, Opened, Parsed};
 
 // Why no more was written.
-#[derive(Drop)]
+#[derive(Clone, Copy)]
 pub enum Stop {
     Full,
     End,
@@ -18,7 +18,7 @@ pub enum Stop {
 }
 
 // How many functions were written, and the cursor for the next call.
-#[derive(Drop)]
+#[derive(Clone, Copy)]
 pub struct Filled {
     pub functions: usize,
     pub next: Cursor,
@@ -26,7 +26,7 @@ pub struct Filled {
 }
 
 // How many functions stand in the list, the index that comes next in the page, and why the page gives no more: `End` is its own.
-#[derive(Drop)]
+#[derive(Clone, Copy)]
 struct Paged {
     pub functions: usize,
     pub index: usize,

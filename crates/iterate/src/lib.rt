@@ -12,26 +12,26 @@ use entries::{Answer, Function, Place};
 use raw::{Error, Lists, Opened, Page, Parsed};
 
 // A page and the index of a function in it: any two numbers.
-#[derive(Drop)]
+#[derive(Clone, Copy)]
 pub struct Cursor {
     pub page: u32,
     pub index: u32,
 }
 
-#[derive(Drop)]
+#[derive(Clone, Copy)]
 pub enum Next {
     Function { next: Cursor, function: Function },
     Refused { error: Error, next: Cursor },
     End { next: Cursor },
 }
 
-#[derive(Drop)]
+#[derive(Clone, Copy)]
 pub struct Range {
     pub start: u32,
     pub end: u32,
 }
 
-#[derive(Drop)]
+#[derive(Clone, Copy)]
 pub enum Ranged {
     Range(Range),
     Refused(Error),

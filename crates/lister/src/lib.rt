@@ -14,20 +14,20 @@ use libc::STDOUT_FILENO;
 use raw::{Lists, Parsed};
 
 // Where a listing stands: the cursor of the next call, the functions so far, and whether the end is written.
-#[derive(Drop)]
+#[derive(Clone, Copy)]
 pub struct Place {
     pub cursor: Cursor,
     pub functions: u64,
     pub ended: bool,
 }
 
-#[derive(Drop)]
+#[derive(Clone, Copy)]
 pub struct Block {
     pub written: usize,
     pub next: Place,
 }
 
-#[derive(Drop)]
+#[derive(Clone, Copy)]
 enum Accepted {
     Whole(Lists),
     Refused(u8),

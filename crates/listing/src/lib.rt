@@ -1,5 +1,6 @@
 // The text of a listing, written into lists of bytes that the caller lends: lines of functions, refusals, the end.
 #![tactic(auto)]
+
 ghost use Rattle.std.specs.Prelude.{◌≡◌, ◌+◌, ◌≤◌, ◌<◌, min, length};
 ghost use Rattle.std.proofs.lemmas.List.Edits.{sets};
 ghost use Rattle.listing.specs.Listing.{digit_of, digits_of, hex_of, line_of, places_of, refused_of, end_of, written, whole_of, lines_in};

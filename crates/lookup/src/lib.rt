@@ -14,7 +14,7 @@ use entries::{Answer, Function, Place};
 use raw::{Error, Kind, Lists, Opened, Parsed};
 
 // What was found, with the number of entries that the searches probed.
-#[derive(Drop)]
+#[derive(Clone, Copy)]
 pub enum Found {
     Function { function: Function, probes: u32 },
     Nothing { probes: u32 },

@@ -8,7 +8,7 @@ use lookup::Found;
 use step::arm64::RegistersArm64;
 
 // The caller's registers; where the lookup or the step is refused, the registers as they were. probes: the entries that the lookup probed.
-#[derive(Drop)]
+#[derive(Clone, Copy)]
 pub struct UnwoundArm64 {
     pub outcome: Outcome,
     pub probes: u32,

@@ -15,7 +15,7 @@ use raw::Error;
 use rules::Refusal;
 
 // Whether the caller's registers are there: otherwise the lookup's refusal, or the step's.
-#[derive(Drop)]
+#[derive(Clone, Copy)]
 pub enum Outcome {
     Answered,
     NotLookedUp(Error),

@@ -9,7 +9,7 @@ use iterate::{Cursor, Next, Ranged};
 use lookup::Found;
 use raw::Lists;
 
-#[derive(Drop)]
+#[derive(Clone, Copy)]
 pub struct UnwindInfo<'a> {
     pub section: &'a [u8],
     pub global_opcodes_offset: u32,

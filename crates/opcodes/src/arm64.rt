@@ -4,7 +4,7 @@ ghost use Rattle.opcodes.specs.WordsArm64.{parse_of, told};
 
 use crate::words_arm64::WordArm64;
 
-#[derive(Drop)]
+#[derive(Clone, Copy)]
 pub enum OpcodeArm64 {
     Null,
     Frameless {

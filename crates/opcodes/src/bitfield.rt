@@ -2,7 +2,7 @@
 ghost use Rattle.std.specs.Prelude.{◌≡◌};
 ghost use Rattle.opcodes.specs.Bits.{kind_of, specific_of};
 
-#[derive(Drop)]
+#[derive(Clone, Copy)]
 pub struct OpcodeBitfield(pub u32);
 
 impl OpcodeBitfield {

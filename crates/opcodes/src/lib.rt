@@ -1,5 +1,6 @@
 // Opcode words: a kind in bits 24 to 27, and 24 bits whose meaning goes by the machine.
 #![tactic(auto)]
+
 pub mod arm64;
 pub mod bitfield;
 pub mod consts;

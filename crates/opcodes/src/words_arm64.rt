@@ -14,7 +14,7 @@ use crate::pick::pick;
 // 24 bits, for 4 the kind. saved_pairs has the pairs of a frame-based word at the word's own bits: x19/x20 to x27/x28 at 0 to 4, d8/d9 to
 // d14/d15 at 8 to 11. What a case doesn't have is 0.
 #[repr(C)]
-#[derive(Drop)]
+#[derive(Clone, Copy)]
 pub struct WordArm64 {
     pub value: u32,
     pub answer: u8,

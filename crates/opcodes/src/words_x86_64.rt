@@ -12,7 +12,7 @@ use permutation::{Decoded, decode_permutation_6};
 // answer is 0 null, 1 frame-based, 2 frameless immediate, 3 frameless indirect, 4 DWARF, 5 invalid frameless, 6 unrecognised kind.
 // value goes by the answer: for 1 the offset in bytes, for 2 the size in bytes, for 3 the immediate's place, for 4 the 24 bits, for 6 the
 // kind. fields are a frame-based word's, saved_regs a frameless one's. What a case doesn't have is 0.
-#[derive(Drop)]
+#[derive(Clone, Copy)]
 pub struct WordX86_64 {
     pub value: u32,
     pub answer: u8,

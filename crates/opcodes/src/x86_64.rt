@@ -5,7 +5,7 @@ ghost use Rattle.opcodes.specs.WordsX86 as x86;
 
 use crate::words_x86_64::WordX86_64;
 
-#[derive(Drop)]
+#[derive(Clone, Copy)]
 pub enum RegisterNameX86_64 {
     Rbx,
     R12,
@@ -16,7 +16,7 @@ pub enum RegisterNameX86_64 {
 }
 
 // What a number in a word names.
-#[derive(Drop)]
+#[derive(Clone, Copy)]
 pub enum Named {
     Absent,
     Register(RegisterNameX86_64),
@@ -70,7 +70,7 @@ impl RegisterNameX86_64 {
     }
 }
 
-#[derive(Drop)]
+#[derive(Clone, Copy)]
 pub enum OpcodeX86_64 {
     Null,
     FrameBased {
@@ -95,7 +95,7 @@ pub enum OpcodeX86_64 {
 }
 
 // The registers that a frameless word lists stand beside the enum, by their numbers: in the order in which they are popped, then zeros.
-#[derive(Drop)]
+#[derive(Clone, Copy)]
 pub struct ParsedX86_64 {
     pub opcode: OpcodeX86_64,
     pub saved_regs: [u8; 6],

@@ -1,5 +1,6 @@
 // The permutation field of a frameless word: which registers were pushed, and in what order.
 #![tactic(auto)]
+
 ghost use Rattle.std.specs.Prelude.{◌≡◌, suc, ◌≤◌, ◌<◌, take, drop, replicate, eqb};
 ghost use Rattle.permutation.specs.Permutation.{Told, decode_of, encode_of, told, told_encoded, decoded_number, encoded_number, member, every};
 ghost use Rattle.permutation.specs.Flags.{unused, zeros};
@@ -20,20 +21,20 @@ pub const WEIGHTS: [[u8; 6]; 7] = [
     [120, 24, 6, 2, 1, 0],
 ];
 
-#[derive(Drop)]
+#[derive(Clone, Copy)]
 pub enum Decoded {
     Accepted,
     Refused,
 }
 
 // The registers' numbers, in the order in which they are popped; all 0 where the encoding is refused.
-#[derive(Drop)]
+#[derive(Clone, Copy)]
 pub struct Permutation {
     pub decoded: Decoded,
     pub registers: [u8; 6],
 }
 
-#[derive(Drop)]
+#[derive(Clone, Copy)]
 pub enum Encoded {
     Encoding(u32),
     Refused,
@@ -78,6 +79,7 @@ pub fn decode_permutation_6(count: u32, encoding: u32) -> Permutation
 }
 
 // How far apart the rows of neighbouring encodings are. For speed every count has its arm: those left to the last would be told by a jump.
+#[tactic(auto, unfolding(crate::specs::Permutation::bounds))]
 fn apart(count: u32) -> usize
     requires { count ≤ 6 }
     ensures { result ≡ apart_of count }

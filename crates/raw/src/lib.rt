@@ -1,5 +1,6 @@
 // A section's lists and pages.
 #![tactic(auto)]
+
 ghost use Rattle.std.specs.Prelude.{◌≡◌, ◌+◌, ◌*◌, ◌≤◌, ◌<◌, length, drop};
 ghost use Rattle.reader.specs.Reader.{granted_of, slice_told, part_at};
 ghost use Rattle.raw.specs.Checked.{number_of};
@@ -18,7 +19,7 @@ pub const PAGE_KIND_REGULAR: u32 = 2;
 pub const PAGE_KIND_COMPRESSED: u32 = 3;
 
 // Why a section is refused.
-#[derive(Drop)]
+#[derive(Clone, Copy)]
 pub enum Error {
     Header,
     GlobalOpcodes,
@@ -64,7 +65,7 @@ impl Error {
 
 // Places and counts of the two lists; laid out as C does, for the interface.
 #[repr(C)]
-#[derive(Drop)]
+#[derive(Clone, Copy)]
 pub struct Lists {
     pub global_opcodes_offset: u32,
     pub global_opcodes_len: u32,
@@ -72,20 +73,20 @@ pub struct Lists {
     pub pages_len: u32,
 }
 
-#[derive(Drop)]
+#[derive(Clone, Copy)]
 pub enum Parsed {
     Whole(Lists),
     Refused(Error),
 }
 
-#[derive(Drop)]
+#[derive(Clone, Copy)]
 pub enum Kind {
     Regular,
     Compressed,
 }
 
 // An entry of the list of pages: the page's first address and its offset in the section; and where the next page starts.
-#[derive(Drop)]
+#[derive(Clone, Copy)]
 pub struct PageEntry {
     pub first: u32,
     pub offset: u32,
@@ -93,7 +94,7 @@ pub struct PageEntry {
 }
 
 // A page that was opened: offsets count from the page's start, and keys from `base`.
-#[derive(Drop)]
+#[derive(Clone, Copy)]
 pub struct Page {
     pub kind: Kind,
     pub base: u32,
@@ -103,7 +104,7 @@ pub struct Page {
     pub local_opcodes_len: u32,
 }
 
-#[derive(Drop)]
+#[derive(Clone, Copy)]
 pub enum Opened {
     Page(Page),
     Refused(Error),

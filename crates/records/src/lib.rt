@@ -12,7 +12,7 @@ mod text;
 
 pub use text::{put_16, put_32, put_64, show, show_count};
 
-#[derive(Drop)]
+#[derive(Clone, Copy)]
 pub struct Tally {
     pub compared: u64,
     pub differed: u64,

@@ -29,7 +29,7 @@ mod answers;
 const OTHER: u32 = 106;
 
 // Where the bytes of a section lie in the input.
-#[derive(Drop)]
+#[derive(Clone, Copy)]
 struct Place {
     start: usize,
     n: usize,

@@ -9,7 +9,7 @@ use opcodes::arm64::OpcodeArm64;
 
 // below has the distance below CFA of each saved register's slot, 0 for a register that isn't listed. Where the word is refused, all is 0.
 // The return address is x30, loaded from its slot if it has one.
-#[derive(Drop)]
+#[derive(Clone, Copy)]
 pub struct RuleArm64 {
     pub outcome: Outcome,
     pub cfa_register: CfaRegister,

@@ -7,7 +7,7 @@ ghost use Rattle.std.specs.Prelude.{◌≡◌};
 ghost use Rattle.rules.specs.Answers.{refusal_of, outcome_of, saved_at, slot_told};
 
 // Why there is no rule for a word, or no step by it.
-#[derive(Drop)]
+#[derive(Clone, Copy)]
 pub enum Refusal {
     Null,
     Dwarf { eh_frame_fde: u32 },
@@ -22,21 +22,21 @@ pub enum Refusal {
     OutsideWindow,
 }
 
-#[derive(Drop)]
+#[derive(Clone, Copy)]
 pub enum Outcome {
     Answered,
     Refused(Refusal),
 }
 
 // The register that CFA is counted from.
-#[derive(Drop)]
+#[derive(Clone, Copy)]
 pub enum CfaRegister {
     StackPointer,
     FramePointer,
 }
 
 // What a rule says of a register: that it isn't saved, or how far below CFA its slot starts.
-#[derive(Drop)]
+#[derive(Clone, Copy)]
 pub enum Slot {
     Absent,
     BelowCfa(u16),

@@ -10,7 +10,7 @@ use crate::{CfaRegister, Outcome, Refusal};
 use opcodes::x86_64::{Named, OpcodeX86_64, field};
 
 // below has the distance below CFA of each saved register's slot, 0 for a register that isn't listed. Where the word is refused, all is 0.
-#[derive(Drop)]
+#[derive(Clone, Copy)]
 pub struct RuleX86_64 {
     pub outcome: Outcome,
     pub cfa_register: CfaRegister,

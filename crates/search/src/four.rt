@@ -8,14 +8,14 @@ use crate::{
 };
 
 // The entries that are left to search. The one to probe next is found anew, which takes a register less.
-#[derive(Drop)]
+#[derive(Clone, Copy)]
 struct Rest {
     pub lo: usize,
     pub len: usize,
 }
 
 // Four such.
-#[derive(Drop)]
+#[derive(Clone, Copy)]
 struct Rests {
     pub a: Rest,
     pub b: Rest,
@@ -24,7 +24,7 @@ struct Rests {
 }
 
 // How many entries four lists have.
-#[derive(Drop)]
+#[derive(Clone, Copy)]
 struct Counts {
     pub a: usize,
     pub b: usize,

@@ -1,5 +1,6 @@
 // The layouts of a list's entries with their numbers, and one bisection over such a list; `four` has four side by side.
 #![tactic(auto)]
+
 pub mod four;
 
 ghost use Rattle.std.specs.Prelude.{◌≡◌, cond, ◌+◌, ◌*◌, ◌≤◌, length};
@@ -17,7 +18,7 @@ pub const COMPRESSED_ENTRY: usize = 4;
 // A compressed function's key is what is below this in its word, and its opcode's index what is above.
 pub const COMPRESSED_KEYS: u32 = 16777216;
 
-#[derive(Drop)]
+#[derive(Clone, Copy)]
 pub enum Layout {
     Pages,
     Regular,
@@ -25,14 +26,14 @@ pub enum Layout {
 }
 
 // Where a search ended: one past the entry found, 0 if there is none; and how many entries it probed.
-#[derive(Drop)]
+#[derive(Clone, Copy)]
 pub struct Spot {
     pub at: usize,
     pub probes: u32,
 }
 
 // Where four searches ended.
-#[derive(Drop)]
+#[derive(Clone, Copy)]
 pub struct Spots {
     pub a: Spot,
     pub b: Spot,
@@ -41,7 +42,7 @@ pub struct Spots {
 }
 
 // What four searches look for.
-#[derive(Drop)]
+#[derive(Clone, Copy)]
 pub struct Keys {
     pub a: u32,
     pub b: u32,
@@ -50,7 +51,7 @@ pub struct Keys {
 }
 
 // The entries that are left to search, len of them from lo on, and the one to probe next.
-#[derive(Drop)]
+#[derive(Clone, Copy)]
 pub(crate) struct Span {
     pub lo: usize,
     pub len: usize,
@@ -58,7 +59,7 @@ pub(crate) struct Span {
 }
 
 // A search on its way; its width goes by the number of entries alone, so that no turn depends on a key.
-#[derive(Drop)]
+#[derive(Clone, Copy)]
 pub(crate) struct Going {
     pub left: Span,
     pub width: usize,

@@ -10,7 +10,7 @@ use rules::{CfaRegister, Outcome, Refusal};
 
 // saved: x19 to x30, then d8 to d15.
 #[repr(C)]
-#[derive(Drop)]
+#[derive(Clone, Copy)]
 pub struct RegistersArm64 {
     pub pc: u64,
     pub sp: u64,
@@ -18,7 +18,7 @@ pub struct RegistersArm64 {
 }
 
 // The caller's registers; where the step is refused, the registers as they were.
-#[derive(Drop)]
+#[derive(Clone, Copy)]
 pub struct SteppedArm64 {
     pub outcome: Outcome,
     pub registers: RegistersArm64,

@@ -8,21 +8,21 @@ ghost use Rattle.step.specs.Slots.{anchor_of, cfa_of, spot_of, landing};
 use rules::{CfaRegister, Outcome, Refusal};
 
 // CFA, where it and the window's end are addresses.
-#[derive(Drop)]
+#[derive(Clone, Copy)]
 pub(crate) enum Cfa {
     At(u64),
     Above,
 }
 
 // Where a slot starts in the window.
-#[derive(Drop)]
+#[derive(Clone, Copy)]
 pub(crate) enum Spot {
     At(usize),
     Outside,
 }
 
 // What a step over slots finds; the preserved registers are loaded in place.
-#[derive(Drop)]
+#[derive(Clone, Copy)]
 pub(crate) struct Landed {
     pub outcome: Outcome,
     pub pc: u64,

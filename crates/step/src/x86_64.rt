@@ -8,7 +8,7 @@ use rules::x86_64::RuleX86_64;
 
 // saved: rbx, r12, r13, r14, r15, rbp.
 #[repr(C)]
-#[derive(Drop)]
+#[derive(Clone, Copy)]
 pub struct RegistersX86_64 {
     pub rip: u64,
     pub rsp: u64,
@@ -16,7 +16,7 @@ pub struct RegistersX86_64 {
 }
 
 // The caller's registers; where the step is refused, the registers as they were.
-#[derive(Drop)]
+#[derive(Clone, Copy)]
 pub struct SteppedX86_64 {
     pub outcome: Outcome,
     pub registers: RegistersX86_64,
