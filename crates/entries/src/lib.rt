@@ -1,5 +1,6 @@
 // The functions of a page: one reader for all who ask for a function.
 #![tactic(auto)]
+
 ghost use Rattle.std.specs.Prelude.{◌≡◌, true, cond, [], ◌+◌, ◌*◌, ◌≤◌, ◌<◌, length};
 ghost use Rattle.reader.specs.Reader.{word_at, slice_told, part_in};
 ghost use Rattle.search.specs.Search.{size_of};

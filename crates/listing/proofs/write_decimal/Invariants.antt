@@ -11,7 +11,8 @@ use Rattle.listing.proofs.Stores.{one_less, none_left}
 use Rattle.listing.proofs.write_decimal.Given as goal
 
 abbrev pub invariant-loop-i : goal.invariant-loop-i
-invariant-loop-i l = (sets l.out l.at (digits_of 10 l.i l.rest) ≡ sets l.initial.out l.at (digits_of 10 l.k l.n)) × (l.i ≤ l.k) × (length l.out ≡ length l.initial.out)
+invariant-loop-i l =
+    (sets l.out l.at (digits_of 10 l.i l.rest) ≡ sets l.initial.out l.at (digits_of 10 l.k l.n)) × (l.i ≤ l.k) × (length l.out ≡ length l.initial.out)
 
 abbrev pub decreases-loop-i : goal.decreases-loop-i
 decreases-loop-i l = l.i

@@ -19,7 +19,8 @@ overflow_add-newline c = omega (arith, c.places-k.ensures, few 19 c.args.functio
 
 pub returns-then-out-newline : goal.returns-then-out-newline
 unfolding end_of
-returns-then-out-newline c = let a = c.args in
+returns-then-out-newline c =
+    let a = c.args in
     word-too-long word 4 a.functions c.places-k.result refl c.places-k.ensures a.out.now c.if-out-newline.true
 
 pub bounds-out-newline : goal.bounds-out-newline
@@ -30,7 +31,8 @@ shape_of-out c = simp length-set (simp length-set at c.write_decimal.auto.out)
 
 pub returns : goal.returns
 unfolding end_of
-returns c = let a = c.args in
+returns c =
+    let a = c.args in
     word_fits word 4 a.functions c.places-k.result refl c.places-k.ensures a.out.now c.if-out-newline.false c.write_decimal.ensures
 
 pub bounds-out-1 : goal.bounds-out-1

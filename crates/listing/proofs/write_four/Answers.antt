@@ -10,7 +10,8 @@ use Rattle.listing.proofs.Stores.{after}
 use Rattle.listing.proofs.write_four.Goals as goal
 
 pub returns : goal.returns
-returns c = let a = c.args in
+returns c =
+    let a = c.args in
     after a.out.now a.at 2 (digits_of 16 2 (a.n / 256)) (digits_of 16 2 a.n)
     c.write_two.ensures (length_digits 16 2 (a.n / 256)) c.write_two-2.ensures
     ∙ ap (sets a.out.now a.at) (sym (split 16 2 2 a.n))

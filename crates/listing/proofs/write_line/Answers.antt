@@ -15,15 +15,18 @@ pub write_eight-requires-3 : goal.write_eight-requires-3
 write_eight-requires-3 c = simp length-set (omega (arith, simp length-set at c.write_eight-2.auto.out))
 
 pub bounds-out-at-3 : goal.bounds-out-at-3
-bounds-out-at-3 c = omega (arith, simp length-set at c.write_eight-3.auto.out, simp length-set at c.write_eight-2.auto.out, c.write_eight.auto.out, c.requires)
+bounds-out-at-3 c =
+    omega (arith, simp length-set at c.write_eight-3.auto.out, simp length-set at c.write_eight-2.auto.out, c.write_eight.auto.out, c.requires)
 
 pub shape_of-out : goal.shape_of-out
-shape_of-out c = simp length-set
+shape_of-out c =
+    simp length-set
     (omega (arith, simp length-set at c.write_eight-3.auto.out, simp length-set at c.write_eight-2.auto.out, c.write_eight.auto.out))
 
 pub returns : goal.returns
 unfolding line_of
-returns c = let a = c.args in
+returns c =
+    let a = c.args in
     line-stored a.out.now a.at (hex_of a.a) (hex_of a.b) (hex_of a.c)
     (length_digits 16 8 a.a) (length_digits 16 8 a.b) (length_digits 16 8 a.c)
     c.write_eight.ensures c.write_eight-2.ensures c.write_eight-3.ensures

@@ -27,7 +27,8 @@ pub shape_of-out : goal.shape_of-out
 shape_of-out c = c.loop-k.invariant.4
 
 pub returns : goal.returns
-returns c = let a = c.args in
+returns c =
+    let a = c.args in
     let n = c.least-n.result in
     let e : c.loop-k.k ≡ n = omega arith in
     all-stored a.numbers.now a.out.now a.lines n (omega (arith, c.least-n.ensures, c.least.ensures))

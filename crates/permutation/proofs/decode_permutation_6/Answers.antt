@@ -37,14 +37,17 @@ pub returns-then-count-gt6 : goal.returns-then-count-gt6
 returns-then-count-gt6 c = c.refused.ensures ∙ sym (decode-refuses _ _ (accepts-no-count _ _ c.if-count-gt6.true))
 
 pub overflow_mul-at : goal.overflow_mul-at
-overflow_mul-at c = let a = c.args in
+overflow_mul-at c =
+    let a = c.args in
     record { fits = omega (arith, product a.count a.encoding c.apart.result (omega arith) c.apart.ensures (omega arith)) }
 
 pub returns-then-at-ge720 : goal.returns-then-at-ge720
-returns-then-at-ge720 c = let a = c.args in
+returns-then-at-ge720 c =
+    let a = c.args in
     c.refused-then-at-ge720.ensures ∙ past a.count a.encoding c.apart.result (omega arith) c.apart.ensures (omega arith)
 
 pub returns : goal.returns
-returns c = let a = c.args in
+returns c =
+    let a = c.args in
     ap accepted c.places.ensures
     ∙ says a.count a.encoding c.apart.result (omega arith) c.apart.ensures (omega arith) c.kept.result c.row.result c.kept.ensures c.row.ensures

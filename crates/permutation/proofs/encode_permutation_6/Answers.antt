@@ -41,11 +41,13 @@ overflow_mul-sum c = record { fits = omega (arith, product (omega arith) c.loop-
 
 pub overflow_add-sum : goal.overflow_add-sum
 unfolding rows
-overflow_add-sum c = record { fits = omega (arith, product (omega arith) c.loop-i-test.true c.wide.ensures c.rank.ensures.1, c.loop-i.invariant.small) }
+overflow_add-sum c =
+    record { fits = omega (arith, product (omega arith) c.loop-i-test.true c.wide.ensures c.rank.ensures.1, c.loop-i.invariant.small) }
 
 pub returns-then-are_zeros : goal.returns-then-are_zeros
 unfolding rows
-returns-then-are_zeros c = let n = c.args.count in
+returns-then-are_zeros c =
+    let n = c.args.count in
     let k : length (take n c.args.registers) ≡ n = length-take-le n c.args.registers (omega (arith, (let six : length c.args.registers ≡ 6 = good_length (e_int w8) 6 c.args.registers _ c.well_formed.1.0 in six))) in
     let e : c.loop-i.i ≡ n = omega (arith, c.loop-i.invariant.upto) in
     sym (accepts n c.args.registers c.loop-i.used c.loop-i.sum (omega arith) ((let six : length c.args.registers ≡ 6 = good_length (e_int w8) 6 c.args.registers _ c.well_formed.1.0 in six))
@@ -56,7 +58,8 @@ returns-else-are_zeros c = sym (refuses-rest c.args.count c.args.registers (omeg
 
 pub returns-then-not-is_unused : goal.returns-then-not-is_unused
 unfolding rows
-returns-then-not-is_unused c = let n = c.args.count in
+returns-then-not-is_unused c =
+    let n = c.args.count in
     let k : length (take n c.args.registers) ≡ n = length-take-le n c.args.registers (omega (arith, (let six : length c.args.registers ≡ 6 = good_length (e_int w8) 6 c.args.registers _ c.well_formed.1.0 in six))) in
     let e = get_or-take n c.args.registers c.loop-i.i 0 c.loop-i-test.true in
     let m : member (get_or (take n c.args.registers) c.loop-i.i 0) (unused c.loop-i.used) ≡ false =
@@ -65,17 +68,21 @@ returns-then-not-is_unused c = let n = c.args.count in
     (refused (weights n) (take n c.args.registers) c.loop-i.used c.loop-i.sum c.loop-i.i c.loop-i.invariant (omega (arith, weights-long n (omega arith))) (omega arith) m))
 
 pub place-at-requires : goal.place-at-requires
-place-at-requires c = ((let free : Free c.loop-i.used (get_or c.args.registers c.loop-i.i 0) = free_of _ _ (sym c.is_unused.ensures ∙ c.if-not-is_unused.false) in free)).low
+place-at-requires c =
+    ((let free : Free c.loop-i.used (get_or c.args.registers c.loop-i.i 0) = free_of _ _ (sym c.is_unused.ensures ∙ c.if-not-is_unused.false) in free)).low
 
 pub rank-requires : goal.rank-requires
-rank-requires c = omega (arith, c.place-at.ensures, ((let free : Free c.loop-i.used (get_or c.args.registers c.loop-i.i 0) = free_of _ _ (sym c.is_unused.ensures ∙ c.if-not-is_unused.false) in free)).high, c.loop-i.invariant.flags)
+rank-requires c =
+    omega (arith, c.place-at.ensures, ((let free : Free c.loop-i.used (get_or c.args.registers c.loop-i.i 0) = free_of _ _ (sym c.is_unused.ensures ∙ c.if-not-is_unused.false) in free)).high, c.loop-i.invariant.flags)
 
 pub bounds-used-at : goal.bounds-used-at
-bounds-used-at c = omega (arith, c.place-at.ensures, ((let free : Free c.loop-i.used (get_or c.args.registers c.loop-i.i 0) = free_of _ _ (sym c.is_unused.ensures ∙ c.if-not-is_unused.false) in free)).high, c.loop-i.invariant.flags)
+bounds-used-at c =
+    omega (arith, c.place-at.ensures, ((let free : Free c.loop-i.used (get_or c.args.registers c.loop-i.i 0) = free_of _ _ (sym c.is_unused.ensures ∙ c.if-not-is_unused.false) in free)).high, c.loop-i.invariant.flags)
 
 pub loop-i-preserved : goal.loop-i-preserved
 unfolding rows
-loop-i-preserved c = let n = c.args.count in
+loop-i-preserved c =
+    let n = c.args.count in
     let h : c.loop-i.i < n = c.loop-i-test.true in
     let f = (let free : Free c.loop-i.used (get_or c.args.registers c.loop-i.i 0) = free_of _ _ (sym c.is_unused.ensures ∙ c.if-not-is_unused.false) in free) in
     let k : length (take n c.args.registers) ≡ n = length-take-le n c.args.registers (omega (arith, (let six : length c.args.registers ≡ 6 = good_length (e_int w8) 6 c.args.registers _ c.well_formed.1.0 in six))) in

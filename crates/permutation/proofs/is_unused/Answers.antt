@@ -16,11 +16,13 @@ pub returns-then-x-eq0 : goal.returns-then-x-eq0
 returns-then-x-eq0 c = sym (not-before 1 c.args.x c.args.used (omega arith))
 
 pub returns-then-x-gt6 : goal.returns-then-x-gt6
-returns-then-x-gt6 c = let a = c.args in
+returns-then-x-gt6 c =
+    let a = c.args in
     sym (not_after 1 a.x a.used (omega (arith, (let six : length c.args.used ≡ 6 = good_length (e_int w8) 6 c.args.used _ c.well_formed.0 in six))))
 
 pub returns : goal.returns
-returns c = let a = c.args in
+returns c =
+    let a = c.args in
     let r : ℕ = c.place.result in
     let e : 1 + r ≡ a.x = omega (arith, c.place.ensures) in
     sym (flag-says 1 a.used r (omega (arith, (let six : length c.args.used ≡ 6 = good_length (e_int w8) 6 c.args.used _ c.well_formed.0 in six)))) ∙ ap (λ (x : ℕ). member x (unused a.used)) e

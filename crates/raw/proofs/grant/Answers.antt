@@ -10,7 +10,8 @@ pub returns-then-not-is_granted : goal.returns-then-not-is_granted
 returns-then-not-is_granted c = no-globals _ _ (sym c.is_granted.ensures ∙ c.if-not-is_granted.true)
 
 pub returns-then-not-is_granted-2 : goal.returns-then-not-is_granted-2
-returns-then-not-is_granted-2 c = no-pages _ _ (sym c.is_granted.ensures ∙ c.if-not-is_granted.false) (sym c.is_granted-2.ensures ∙ c.if-not-is_granted-2.true)
+returns-then-not-is_granted-2 c =
+    no-pages _ _ (sym c.is_granted.ensures ∙ c.if-not-is_granted.false) (sym c.is_granted-2.ensures ∙ c.if-not-is_granted-2.true)
 
 pub returns : goal.returns
 returns c = both-lists _ _ (sym c.is_granted.ensures ∙ c.if-not-is_granted.false) (sym c.is_granted-2.ensures ∙ c.if-not-is_granted-2.false)

@@ -22,7 +22,8 @@ unfolding first_in key_of
 next_one pages p = ap (word_at 4 pages) (omega arith)
 
 pub returns-then-not-is_granted : goal.returns-then-not-is_granted
-returns-then-not-is_granted c = let none = no-next _ _ (sym c.is_granted.ensures ∙ c.if-not-is_granted.true) in
+returns-then-not-is_granted c =
+    let none = no-next _ _ (sym c.is_granted.ensures ∙ c.if-not-is_granted.true) in
     cc
 
 pub returns : goal.returns

@@ -16,7 +16,8 @@ pub slice_bounds-regular-start : goal.slice_bounds-regular-start
 slice_bounds-regular-start c = let h = kind-inside _ _ 0 _ (sym c.read_u32.ensures ∙ ap told32 c.in-Value.is) in search rules
 
 pub returns-then-kind-eq-PAGE_KIND_REGULAR : goal.returns-then-kind-eq-PAGE_KIND_REGULAR
-returns-then-kind-eq-PAGE_KIND_REGULAR c = kind_2 _ _ _ _ (sym c.read_u32.ensures ∙ ap told32 c.in-Value.is) _ c.if-kind-eq-PAGE_KIND_REGULAR.true c.regular.ensures
+returns-then-kind-eq-PAGE_KIND_REGULAR c =
+    kind_2 _ _ _ _ (sym c.read_u32.ensures ∙ ap told32 c.in-Value.is) _ c.if-kind-eq-PAGE_KIND_REGULAR.true c.regular.ensures
 
 pub slice_bounds-compressed-count : goal.slice_bounds-compressed-count
 slice_bounds-compressed-count c = let h = kind-inside _ _ 0 _ (sym c.read_u32.ensures ∙ ap told32 c.in-Value.is) in search rules
@@ -25,10 +26,13 @@ pub slice_bounds-compressed-start : goal.slice_bounds-compressed-start
 slice_bounds-compressed-start c = let h = kind-inside _ _ 0 _ (sym c.read_u32.ensures ∙ ap told32 c.in-Value.is) in search rules
 
 pub returns-then-kind-eq-PAGE_KIND_COMPRESSED : goal.returns-then-kind-eq-PAGE_KIND_COMPRESSED
-returns-then-kind-eq-PAGE_KIND_COMPRESSED c = kind_3 _ _ _ _ (sym c.read_u32.ensures ∙ ap told32 c.in-Value.is) _ c.if-kind-eq-PAGE_KIND_REGULAR.false c.if-kind-eq-PAGE_KIND_COMPRESSED.true c.compressed.ensures
+returns-then-kind-eq-PAGE_KIND_COMPRESSED c =
+    kind_3 _ _ _ _ (sym c.read_u32.ensures ∙ ap told32 c.in-Value.is) _ c.if-kind-eq-PAGE_KIND_REGULAR.false c.if-kind-eq-PAGE_KIND_COMPRESSED.true c.compressed.ensures
 
 pub returns-then-kind-eq-PAGE_KIND_SENTINEL : goal.returns-then-kind-eq-PAGE_KIND_SENTINEL
-returns-then-kind-eq-PAGE_KIND_SENTINEL c = kind_1 _ _ _ _ (sym c.read_u32.ensures ∙ ap told32 c.in-Value.is) c.if-kind-eq-PAGE_KIND_REGULAR.false c.if-kind-eq-PAGE_KIND_COMPRESSED.false c.if-kind-eq-PAGE_KIND_SENTINEL.true
+returns-then-kind-eq-PAGE_KIND_SENTINEL c =
+    kind_1 _ _ _ _ (sym c.read_u32.ensures ∙ ap told32 c.in-Value.is) c.if-kind-eq-PAGE_KIND_REGULAR.false c.if-kind-eq-PAGE_KIND_COMPRESSED.false c.if-kind-eq-PAGE_KIND_SENTINEL.true
 
 pub returns : goal.returns
-returns c = other-kind _ _ _ _ (sym c.read_u32.ensures ∙ ap told32 c.in-Value.is) c.if-kind-eq-PAGE_KIND_REGULAR.false c.if-kind-eq-PAGE_KIND_COMPRESSED.false c.if-kind-eq-PAGE_KIND_SENTINEL.false
+returns c =
+    other-kind _ _ _ _ (sym c.read_u32.ensures ∙ ap told32 c.in-Value.is) c.if-kind-eq-PAGE_KIND_REGULAR.false c.if-kind-eq-PAGE_KIND_COMPRESSED.false c.if-kind-eq-PAGE_KIND_SENTINEL.false

@@ -10,7 +10,9 @@ pub returns-then-not-is_granted : goal.returns-then-not-is_granted
 returns-then-not-is_granted c = no-regular _ (sym c.is_granted.ensures ∙ c.if-not-is_granted.true)
 
 pub returns-then-not-is_granted-2 : goal.returns-then-not-is_granted-2
-returns-then-not-is_granted-2 c = no-regular-functions _ _ _ c.u16_or_0-at.ensures c.u16_or_0-n.ensures (sym c.is_granted.ensures ∙ c.if-not-is_granted.false) (sym c.is_granted-2.ensures ∙ c.if-not-is_granted-2.true)
+returns-then-not-is_granted-2 c =
+    no-regular-functions _ _ _ c.u16_or_0-at.ensures c.u16_or_0-n.ensures (sym c.is_granted.ensures ∙ c.if-not-is_granted.false) (sym c.is_granted-2.ensures ∙ c.if-not-is_granted-2.true)
 
 pub returns : goal.returns
-returns c = is-regular _ _ _ c.u16_or_0-at.ensures c.u16_or_0-n.ensures (sym c.is_granted.ensures ∙ c.if-not-is_granted.false) (sym c.is_granted-2.ensures ∙ c.if-not-is_granted-2.false)
+returns c =
+    is-regular _ _ _ c.u16_or_0-at.ensures c.u16_or_0-n.ensures (sym c.is_granted.ensures ∙ c.if-not-is_granted.false) (sym c.is_granted-2.ensures ∙ c.if-not-is_granted-2.false)

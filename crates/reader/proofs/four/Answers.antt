@@ -6,5 +6,6 @@ use Rattle.reader.proofs.Laws.{split}
 use Rattle.reader.proofs.four.Goals as goal
 
 pub returns : goal.returns
-returns c = let a = c.args in
+returns c =
+    let a = c.args in
     omega (arith, split 2 2 a.s.now a.at)

@@ -11,15 +11,18 @@ use Rattle.reader.proofs.is_granted.Goals as goal
 
 pub returns-then-s-n : goal.returns-then-s-n
 unfolding granted_of
-returns-then-s-n c = let a = c.args in
+returns-then-s-n c =
+    let a = c.args in
     sym (lt-leb (a.offset + a.n) (length a.s.now) (omega arith))
 
 pub returns-then-s-n-2 : goal.returns-then-s-n-2
 unfolding granted_of
-returns-then-s-n-2 c = let a = c.args in
+returns-then-s-n-2 c =
+    let a = c.args in
     sym (lt-leb (a.offset + a.n) (length a.s.now) (omega arith))
 
 pub returns : goal.returns
 unfolding granted_of
-returns c = let a = c.args in
+returns c =
+    let a = c.args in
     sym (le-leb (a.offset + a.n) (length a.s.now) (omega arith))

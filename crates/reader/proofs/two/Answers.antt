@@ -7,5 +7,6 @@ use Rattle.reader.proofs.Laws.{split, one_byte}
 use Rattle.reader.proofs.two.Goals as goal
 
 pub returns : goal.returns
-returns c = let a = c.args in
+returns c =
+    let a = c.args in
     omega (arith, split 1 1 a.s.now a.at, one_byte a.s.now a.at, one_byte a.s.now (a.at + 1))

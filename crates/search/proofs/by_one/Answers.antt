@@ -14,5 +14,6 @@ pub overflow_add-result : goal.overflow_add-result
 overflow_add-result c = omega (arith, few _ _ _ _ c.requires.1.on c.ranges.n.fits)
 
 pub returns : goal.returns
-returns c = let b = c.requires.1 in
+returns c =
+    let b = c.requires.1 in
     record { on = onward _ _ _ 1 _ _ b.on c.step.ensures; narrow = omega (arith, b.narrow) }

@@ -13,7 +13,8 @@ pub step-half-requires : goal.step-half-requires
 step-half-requires c = ready _ _ _ c.args.layout _ _ c.loop-width.invariant (omega (arith, c.loop-width-test.true)) c.requires.0
 
 pub step-left-requires : goal.step-left-requires
-step-left-requires c = let o = c.loop-width.invariant in
+step-left-requires c =
+    let o = c.loop-width.invariant in
     goes_on _ _ c.args.layout 1 _ _ _ (ready _ _ _ c.args.layout _ _ o (omega (arith, c.loop-width-test.true)) c.requires.0).fits c.step-half.ensures
     (omega (arith, o.most, c.loop-width-test.true))
 

@@ -9,7 +9,8 @@ pub returns-then-n-eq0 : goal.returns-then-n-eq0
 returns-then-n-eq0 c = none _ _ _ c.if-n-eq0.true
 
 pub probe-requires : goal.probe-requires
-probe-requires c = entry-inside c.args.layout _ c.args.n _ c.requires.0 (clamped _ _ _ (omega (arith, c.if-n-eq0.false)) c.either-there.ensures)
+probe-requires c =
+    entry-inside c.args.layout _ c.args.n _ c.requires.0 (clamped _ _ _ (omega (arith, c.if-n-eq0.false)) c.either-there.ensures)
 
 pub overflow_add-result : goal.overflow_add-result
 overflow_add-result c = omega (arith, few _ _ _ _ c.requires.1.on c.ranges.n.fits, c.requires.1.on.least, c.requires.1.narrow)

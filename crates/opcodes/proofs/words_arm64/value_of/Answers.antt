@@ -10,6 +10,7 @@ use Rattle.opcodes.specs.Bits.{bits}
 use Rattle.opcodes.proofs.words_arm64.value_of.Goals as goal
 
 pub returns : goal.returns
-returns c = let a = c.args in
+returns c =
+    let a = c.args in
     c.pick.ensures
     ∙ ap (λ (x : ℕ). cond (eqb a.kind 2) (16 * bits 12 12 a.opcode) x) (c.pick-low.ensures ∙ ap (λ (x : ℕ). cond (eqb a.kind 3) (x % 2 ^ 24) a.kind) (sym (div-one a.opcode)))

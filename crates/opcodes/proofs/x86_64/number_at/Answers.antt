@@ -16,7 +16,8 @@ pub returns-in-0 : goal.returns-in-0
 returns-in-0 c = ap (λ (x : ℕ). x % 8) (sym (div-one c.args.fields)) ∙ ap (number_at c.args.fields) (sym c.in-0.is)
 
 pub returns-in_default : goal.returns-in_default
-returns-in_default c = let r = c.in_default.in_default-own.rest in
+returns-in_default c =
+    let r = c.in_default.in_default-own.rest in
     past c.args.fields c.args.k r.0.0.0.0.1 r.0.0.0.1 r.0.0.1 r.0.1 r.1
 
 pub returns-in-1 : goal.returns-in-1

@@ -10,6 +10,7 @@ use Rattle.permutation.proofs.Octal.{one_of_three}
 use Rattle.permutation.proofs.table.row.Goals as goal
 
 pub returns : goal.returns
-returns c = let at : ℕ = c.args.at in
+returns c =
+    let at : ℕ = c.args.at in
     let i : at % 3 < 3 = omega arith in
     one_of_three c.three_rows.result (3 * (at / 3)) (at % 3) i c.three_rows.ensures ∙ ap (registers_of 6) (div-add-mod at 3)

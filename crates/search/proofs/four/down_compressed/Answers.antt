@@ -12,19 +12,23 @@ pub loop-gone-init : goal.loop-gone-init
 loop-gone-init c = (omega arith, begins _ _ _ _ _ _ _ c.requires.0 _ c.unprobed-from.ensures)
 
 pub halve-a-requires : goal.halve-a-requires
-halve-a-requires c = let pre = c.requires in
+halve-a-requires c =
+    let pre = c.requires in
     (may-go _ _ _ _ _ _ _ pre.0 _ pre.1 _ _ c.loop-gone.invariant.1 c.loop-gone-test.true).0
 
 pub halve-b-requires : goal.halve-b-requires
-halve-b-requires c = let pre = c.requires in
+halve-b-requires c =
+    let pre = c.requires in
     (may-go _ _ _ _ _ _ _ pre.0 _ pre.1 _ _ c.loop-gone.invariant.1 c.loop-gone-test.true).1
 
 pub halve-c-requires : goal.halve-c-requires
-halve-c-requires c = let pre = c.requires in
+halve-c-requires c =
+    let pre = c.requires in
     (may-go _ _ _ _ _ _ _ pre.0 _ pre.1 _ _ c.loop-gone.invariant.1 c.loop-gone-test.true).2
 
 pub halve-d-requires : goal.halve-d-requires
-halve-d-requires c = let pre = c.requires in
+halve-d-requires c =
+    let pre = c.requires in
     (may-go _ _ _ _ _ _ _ pre.0 _ pre.1 _ _ c.loop-gone.invariant.1 c.loop-gone-test.true).3
 
 pub overflow_add-gone : goal.overflow_add-gone

@@ -5,7 +5,8 @@ use Rattle.search.proofs.Turns.{counted-inside, nearly, searched}
 use Rattle.search.proofs.four.ended.Goals as goal
 
 pub last-requires : goal.last-requires
-last-requires c = let h = c.requires in
+last-requires c =
+    let h = c.requires in
     (counted-inside _ _ _ h.0, nearly _ _ _ _ _ h.1 h.2 _ h.0 _ c.going_on.ensures)
 
 pub returns : goal.returns

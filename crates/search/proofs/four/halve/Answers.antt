@@ -10,12 +10,14 @@ pub overflow_add-mid : goal.overflow_add-mid
 overflow_add-mid c = omega (arith, less-inside c.args.layout _ _ c.requires.fits)
 
 pub probe-requires : goal.probe-requires
-probe-requires c = let r = c.requires in
+probe-requires c =
+    let r = c.requires in
     entry-inside c.args.layout _ _ _ r.fits (omega (arith, r.some))
 
 pub overflow_add-mid-2 : goal.overflow_add-mid-2
 overflow_add-mid-2 c = omega (arith, less-inside c.args.layout _ _ c.requires.fits, c.requires.some)
 
 pub returns : goal.returns
-returns c = let r = c.requires in
+returns c =
+    let r = c.requires in
     lean-round _ _ _ r.some refl _ c.probe.ensures _ _ c.either.ensures c.either-2.ensures

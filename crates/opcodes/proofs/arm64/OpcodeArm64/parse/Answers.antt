@@ -18,5 +18,6 @@ pub returns-in-3 : goal.returns-in-3
 returns-in-3 c = said _ 3 c.parse-word.result c.parse-word.ensures c.in-3.is
 
 pub returns-in_default : goal.returns-in_default
-returns-in_default c = let r = c.in_default.in_default-own.rest in
+returns-in_default c =
+    let r = c.in_default.in_default-own.rest in
     no-case _ c.parse-word.result.value c.parse-word.result.saved_reg_pair_count c.parse-word.result.saved_pairs r.0.0.0.1 r.0.0.1 r.0.1 r.1 ∙ said _ _ c.parse-word.result c.parse-word.ensures refl

@@ -10,11 +10,17 @@ use Rattle.opcodes.proofs.NumbersArm64.{based, not-based}
 use Rattle.opcodes.proofs.words_arm64.WordArm64.parse.Goals as goal
 
 pub overflow_cast-result : goal.overflow_cast-result
-overflow_cast-result c = let w = c.args.opcode in
+overflow_cast-result c =
+    let w = c.args.opcode in
     record { fits = omega (arith, ones-le 12 (bit_and w 0xF1F) (omega (arith, and_le_r w 0xF1F))) }
 
 pub overflow_cast-result-then-kind-eq-OPCODE_KIND_ARM64_FRAMEBASED : goal.overflow_cast-result-then-kind-eq-OPCODE_KIND_ARM64_FRAMEBASED
 overflow_cast-result-then-kind-eq-OPCODE_KIND_ARM64_FRAMEBASED c = record { fits = omega (arith, and_le_r c.args.opcode 0xF1F) }
 
 pub returns-then-kind-eq-OPCODE_KIND_ARM64_FRAMEBASED : goal.returns-then-kind-eq-OPCODE_KIND_ARM64_FRAMEBASED
-returns-then-kind-eq-OPCODE_KIND_ARM64_FRAMEBASED c = based _ ((let kind-is : kind_of c.args.opcode ≡ c.kind-kind.result = sym (c.kind-kind.ensures ∙ ap kind_of c.new.ensures) in kind-is) ∙ c.if-kind-eq-OPCODE_KIND_ARM64_FRAMEBASED.true)
+returns-then-kind-eq-OPCODE_KIND_ARM64_FRAMEBASED c =
+    based _ ((let kind-is : kind_of c.args.opcode ≡ c.kind-kind.result = sym (c.kind-kind.ensures ∙ ap kind_of c.new.ensures) in kind-is) ∙ c.if-kind-eq-OPCODE_KIND_ARM64_FRAMEBASED.true)
+
+pub returns : goal.returns
+returns c =
+    not-based _ _ _ _ ((let kind-is : kind_of c.args.opcode ≡ c.kind-kind.result = sym (c.kind-kind.ensures ∙ ap kind_of c.new.ensures) in kind-is)) c.if-kind-eq-OPCODE_KIND_ARM64_FRAMEBASED.false c.answer_of.ensures c.value_of.ensures

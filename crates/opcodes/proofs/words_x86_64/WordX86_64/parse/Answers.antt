@@ -16,14 +16,17 @@ picked true w = omega arith
 picked false w = omega arith
 
 pub returns-then-kind-gt-OPCODE_KIND_X86_DWARF : goal.returns-then-kind-gt-OPCODE_KIND_X86_DWARF
-returns-then-kind-gt-OPCODE_KIND_X86_DWARF c = c.alone.ensures ∙ no_kind _ _ ((let kind-is : kind_of c.args.opcode ≡ c.kind-kind.result = sym (c.kind-kind.ensures ∙ ap kind_of c.new.ensures) in kind-is)) (omega arith)
+returns-then-kind-gt-OPCODE_KIND_X86_DWARF c =
+    c.alone.ensures ∙ no_kind _ _ ((let kind-is : kind_of c.args.opcode ≡ c.kind-kind.result = sym (c.kind-kind.ensures ∙ ap kind_of c.new.ensures) in kind-is)) (omega arith)
 
 pub overflow_cast-pick : goal.overflow_cast-pick
-overflow_cast-pick c = let e = c.pick-2.ensures in
+overflow_cast-pick c =
+    let e = c.pick-2.ensures in
     omega (arith, e, picked (eqb c.kind-kind.result 1) c.args.opcode)
 
 pub returns : goal.returns
-returns c = let w = c.args.opcode in
+returns c =
+    let w = c.args.opcode in
     let k = c.kind-kind.result in
     c.alone-2.ensures
     ∙ plain k w _ _ ((let kind-is : kind_of c.args.opcode ≡ c.kind-kind.result = sym (c.kind-kind.ensures ∙ ap kind_of c.new.ensures) in kind-is)) c.if-kind-gt-OPCODE_KIND_X86_DWARF.false c.if-kind-eq1.false

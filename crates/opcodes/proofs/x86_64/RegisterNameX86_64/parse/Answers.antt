@@ -14,7 +14,8 @@ past-six : (n : ℕ) → 3 < n → (n ≡ 4 → ⊥) → (n ≡ 5 → ⊥) → (
 past-six n h n4 n5 n6 = omega arith
 
 pub returns-in_default : goal.returns-in_default
-returns-in_default c = let n = c.args.n in
+returns-in_default c =
+    let n = c.args.n in
     let r = c.in_default.in_default-own.rest in
     let n0 : n ≡ 0 → ⊥ = r.0.0.0.0.0.0.1 in
     let h = past_three n n0 r.0.0.0.0.0.1 r.0.0.0.0.1 r.0.0.0.1 in

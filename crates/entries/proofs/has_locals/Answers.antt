@@ -1,0 +1,11 @@
+-- `entries::has_locals` meets its contract: the test of the list.
+-- Assumes nothing.
+use borrow.Author.Rules.{rules}
+use mathlib.Core.Path.{refl}
+use Rattle.reader.specs.Reader.{granted_of}
+use Rattle.entries.specs.Placed.{locals_there}
+use Rattle.entries.proofs.has_locals.Goals as goal
+
+pub returns : goal.returns
+unfolding locals_there granted_of
+returns c = refl

@@ -1,0 +1,9 @@
+-- `entries::inside` meets its contract: the part lies inside.
+-- Assumes nothing.
+use borrow.Author.Rules.{rules}
+use mathlib.Core.Path.{refl}
+use Rattle.entries.proofs.Placed.{part-inside}
+use Rattle.entries.proofs.inside.Goals as goal
+
+pub returns : goal.returns
+returns c = part-inside _ _ _ c.requires _ refl

@@ -1,0 +1,9 @@
+-- `entries::word` meets its contract: four bytes that are there make the number there.
+-- Assumes nothing.
+use borrow.Author.Rules.{rules}
+use mathlib.Core.Path.{◌∙◌}
+use Rattle.search.proofs.Turns.{four_bytes}
+use Rattle.entries.proofs.word.Goals as goal
+
+pub returns : goal.returns
+returns c = c.from_le_bytes.ensures ∙ four_bytes c.args.s.now c.args.at c.requires
