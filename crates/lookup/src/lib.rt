@@ -1,5 +1,6 @@
 // Lookup of the function that covers an address.
 #![tactic(auto)]
+
 ghost use Rattle.std.specs.Prelude.{◌≡◌, true, ◌+◌, ◌-◌, ◌≤◌, ◌<◌, length, drop};
 ghost use Rattle.reader.specs.Reader.{part_of};
 ghost use Rattle.raw.specs.declared.Kind.{Kind};

@@ -1,5 +1,6 @@
 // What an opcode word says of its frame: where CFA is counted from, and how far below it each listed register lies; or a refusal.
 #![tactic(auto)]
+
 pub mod arm64;
 pub mod x86_64;
 

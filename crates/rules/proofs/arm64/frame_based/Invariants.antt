@@ -1,0 +1,20 @@
+-- `rules::arm64::frame_based` meets its contract: each turn places one more pair, or passes it over.
+-- Assumes nothing.
+use Prim.Native.Nat.{ℕ, ◌+◌, ◌-◌, ◌*◌, ◌<◌, ◌≤◌}
+use mathlib.Core.Path.{◌≡◌, refl, ap}
+use mathlib.Core.List.{List}
+use mathlib.Core.Logic.{⊎_elim}
+use native.Mathlib.Omega.{arith}
+use borrow.Author.Rules.{rules}
+use borrow.Kind.Array.{good_length, e_bool}
+use lib.ListN.{length, set, replicate}
+use Rattle.frame.specs.Frame.{register, slot}
+use Rattle.rules.specs.Answers.{numbered, Ruling}
+use Rattle.rules.proofs.Pairing.{Turn, skip, places, end}
+use Rattle.rules.proofs.arm64.frame_based.Given as goal
+
+abbrev pub invariant-loop-p : goal.invariant-loop-p
+invariant-loop-p l = (l.p ≤ 9) × (l.next ≤ 24 + 16 * l.p) × Turn (set (set (replicate 20 0) 10 16) 11 8) l.pairs l.below l.next l.p
+
+abbrev pub decreases-loop-p : goal.decreases-loop-p
+decreases-loop-p l = 9 - l.p
