@@ -1,5 +1,6 @@
 // Many addresses in one call, four at a time; each answer is the single lookup's.
 #![tactic(auto)]
+
 ghost use Rattle.std.specs.Prelude.{◌≡◌, ◌+◌, ◌*◌, ◌≤◌, length};
 ghost use Rattle.raw.specs.Checked.{good};
 ghost use Rattle.raw.specs.Raw.{parse_of};

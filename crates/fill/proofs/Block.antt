@@ -110,7 +110,7 @@ module _ {s : List ℕ} {l : Lists} {c₀ : Cursor} {out₀ out : List ℕ} {k p
 
 -- what was written of a page
 module _ {s : List ℕ} {l : Lists} {p : ℕ} {pg : Page} (h : p + 1 < l.pages_len) (o : opened_at s l p ≡ good pg) (f : ℕ → Checked Function) (same : (i : ℕ) → i < pg.functions_len → f i ≡ function_at s l p pg i) where
-  goes_on : {c₀ : Cursor} {out₀ out out' : List ℕ} {k i k' i' : ℕ} → OnWay s l c₀ out₀ k p i out → Wrote f pg.functions_len k i out k' i' out' → k' ≤ length out₀ / 3 → OnWay s l c₀ out₀ k' p i' out'
+  goes_on : {c₀ : Cursor} {out₀ out : List ℕ} {k i : ℕ} {out' : List ℕ} {k' i' : ℕ} → OnWay s l c₀ out₀ k p i out → Wrote f pg.functions_len k i out k' i' out' → k' ≤ length out₀ / 3 → OnWay s l c₀ out₀ k' p i' out'
   goes_on inv none t = inv
   goes_on inv (more {k = j} {i = m} {x = x} w u e) t =
       one_more (goes_on inv w (omega arith)) x (omega arith) (one-good s l p pg h o _ m x (omega arith) u (sym (same m u) ∙ e))

@@ -15,7 +15,7 @@ use Rattle.fill.specs.declared.Stop.{Stop}
 use Rattle.fill.specs.Block.{put_of, Wrote, none, more, Stops, paged_as, PageFilled, InPage}
 
 -- what is written leaves the list as long as it was
-pub same_length : {f : ℕ → Checked Function} {n k₀ i₀ k i : ℕ} {out₀ out : List ℕ} → Wrote f n k₀ i₀ out₀ k i out → length out ≡ length out₀
+pub same_length : {f : ℕ → Checked Function} {n k₀ i₀ : ℕ} {out₀ : List ℕ} {k i : ℕ} {out : List ℕ} → Wrote f n k₀ i₀ out₀ k i out → length out ≡ length out₀
 unfolding put_of
 same_length none = refl
 same_length (more w t e) = simp length-set (same_length w)

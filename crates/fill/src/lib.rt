@@ -1,5 +1,6 @@
 // Iteration by blocks: functions from a cursor on, three numbers each, into a lent list. A page is opened once.
 #![tactic(auto)]
+
 ghost use Rattle.std.specs.Prelude.{◌≡◌, ◌+◌, ◌*◌, ◌/◌, ◌≤◌, ◌<◌, min, length};
 ghost use Rattle.entries.specs.Placed.{read_of};
 ghost use Rattle.fill.specs.Block.{put_of, paged_as, PageFilled};

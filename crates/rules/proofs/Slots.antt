@@ -1,7 +1,7 @@
 -- What a rule says of each register: it is absent exactly where the frame has no slot of it, and else it says where its slot lies. One law over the
 -- machine, and both machines' sound words.
 -- Assumes nothing.
-use Prim.Native.Nat.{ℕ, zero, suc, ◌+◌, ◌<◌}
+use Prim.Native.Nat.{◌-◌, ℕ, zero, suc, ◌+◌, ◌<◌}
 use mathlib.Core.Path.{◌≡◌, refl, sym, subst}
 use mathlib.Core.Logic.{◌⊎◌, inl, inr}
 use mathlib.Core.List.{List, [], ◌∷◌}
@@ -64,8 +64,8 @@ said_of n ss p r = go (get_or (distances_of n ss) r 0) refl
 
 fields-placed : (top : ℕ) (fs : List ℕ) → Fields 8 5 top fs → Placed 6 (field_slots 8 top fs)
 fields-placed top [] g = tt
-fields-placed top (zero ∷ fs) g = fields-placed _ fs g
-fields-placed top (suc f ∷ fs) g = ((omega (arith, g.0), omega (arith, g.1)), fields-placed _ fs g.2)
+fields-placed top (zero ∷ fs) g = fields-placed (top - 8) fs g
+fields-placed top (suc f ∷ fs) g = ((omega (arith, g.0), omega (arith, g.1)), fields-placed (top - 8) fs g.2)
 
 pushed-placed : (xs : List ℕ) → Named 6 xs → Placed 6 (pushed 8 xs)
 pushed-placed [] g = tt

@@ -1,0 +1,21 @@
+-- `batch::one_by_one` meets its contract: each turn writes an answer more.
+-- Assumes nothing.
+use Rattle.batch.specs.Batch.{numbers_of}
+use borrow.Author.Rules.{rules}
+use Rattle.batch.proofs.Batches.{after-put, one_on}
+use Rattle.lookup.proofs.Probes.{few_on}
+use Rattle.batch.specs.Batch.{standing}
+use Rattle.lookup.specs.Lookup.{lookup_on, probes_of}
+use lib.ListN.{length, get_or}
+use native.Mathlib.Omega.{arith}
+use mathlib.Core.List.{List}
+use mathlib.Core.Path.{◌≡◌, refl, ap, ◌∙◌}
+use Prim.Native.Nat.{ℕ, ◌-◌, ◌≤◌, ◌<◌, ◌^◌}
+use Rattle.batch.proofs.one_by_one.Given as goal
+
+abbrev pub invariant-loop-k : goal.invariant-loop-k
+invariant-loop-k l =
+    (l.k ≤ l.n) × (length l.out ≡ length l.initial.out) × ((first : List ℕ) → l.initial.out ≡ standing (lookup_on l.s) l.addresses first l.from → length first ≡ length l.initial.out → l.out ≡ standing (lookup_on l.s) l.addresses first l.k)
+
+abbrev pub decreases-loop-k : goal.decreases-loop-k
+decreases-loop-k l = l.n - l.k

@@ -1,0 +1,15 @@
+-- `fill::fill_in` meets its contract: as the lists are granted or refused.
+-- Assumes nothing.
+use borrow.Author.Rules.{rules}
+use mathlib.Core.Path.{refl}
+use Rattle.raw.proofs.Grants.{where-whole, where-refused}
+use Rattle.fill.specs.Fill.{fill_in}
+use Rattle.fill.proofs.fill_in.Goals as goal
+
+pub returns-in-Whole : goal.returns-in-Whole
+unfolding fill_in
+returns-in-Whole c = where-whole _ _ _ _ c.grant.ensures _ _ c.in-Whole.is c.fill_of.ensures
+
+pub returns-in-Refused : goal.returns-in-Refused
+unfolding fill_in
+returns-in-Refused c = where-refused _ _ _ _ c.grant.ensures _ _ c.in-Refused.is refl
