@@ -58,7 +58,7 @@ pub returns-in_default : goal.returns-in_default
 returns-in_default c =
     let inv = c.loop-k.invariant in
     block.told_is c.stopped-in_default.ensures
-    ∙ block.page-stops inv.4 c.if-p-pages.false inv.2 inv.3 c.page_entry-e.ensures c.open_page.ensures c.in-Page.is c.fill_page-r.ensures (block.not_end (tag_of the_type) _ refl c.in_default.in_default-own.keys2)
+    ∙ block.page-stops inv.4 c.if-p-pages.false inv.2 inv.3 c.page_entry-e.ensures c.open_page.ensures c.in-Page.is c.fill_page-r.ensures c.in_default.not-End
 
 pub shape_of-out : goal.shape_of-out
 shape_of-out c = block.same_length c.loop-k.invariant.4
