@@ -13,7 +13,7 @@ use Rattle.frame.specs.Frame.{inside, all_inside}
 use Rattle.step.proofs.Spots.{found, missed}
 use Rattle.step.proofs.Turns.{none, one}
 use Rattle.step.proofs.slots.all_inside.Goals as goal
-use Rattle.step.proofs.slots.all_inside.Goals.{else-d-ne0, then-d-ne0}
+use Rattle.step.proofs.slots.all_inside.Goals.{else-d-ne0, then-d-ne0+in-At}
 
 pub loop-i-init : goal.loop-i-init
 loop-i-init c = (omega arith, refl)
@@ -38,9 +38,9 @@ loop-i-preserved c =
       omega arith,
       rw add-one
           (c.loop-i.invariant.1 ∙ elim c.if-d-ne0.branch [
-            | then-d-ne0 w ↦ one F a.below.now c.loop-i.i h w.if-d-ne0.true
-                ∙ ap (λ (t : Bool). t && all_inside F (drop (suc c.loop-i.i) a.below.now)) (found a.width a.base a.len a.cfa d _ (sym w.3.given.1 ∙ w.1.ensures)).0
-            | else-d-ne0 w ↦ none F a.below.now c.loop-i.i h w.left
+            | then-d-ne0+in-At w ↦ one F a.below.now c.loop-i.i h w.if-d-ne0.true
+                ∙ ap (λ (t : Bool). t && all_inside F (drop (suc c.loop-i.i) a.below.now)) (found a.width a.base a.len a.cfa d _ (sym w.in-At.is ∙ w.find_slot.ensures)).0
+            | else-d-ne0 w ↦ none F a.below.now c.loop-i.i h w.if-d-ne0.false
           ]),
     )
 
