@@ -2,14 +2,8 @@
 -- Assumes nothing.
 use Prim.Native.Nat.{ℕ}
 use mathlib.Core.Path.{◌≡◌, refl, ap, sym, ◌∙◌}
-use mathlib.Core.List.{[], ◌∷◌}
-use mathlib.Core.Logic.{inl, inr}
-use native.Mathlib.Omega.{arith}
-use denote.Enum.Declared.{tag_of}
-use types.Run.{OneOf}
 use Rattle.lookup.specs.declared.Found.{Found}
 use Rattle.lookup.specs.Lookup.{Looked, looked_told, probes_of}
-use Rattle.lookup.specs.contracts.Found.{the_type}
 use Rattle.entries.specs.declared.Function.{Function}
 use Rattle.frame.specs.Frame.{Regs}
 use Rattle.rules.specs.Answers.{Number}
@@ -17,16 +11,15 @@ use Rattle.step.specs.Steps.{Told}
 use Rattle.macho_unwind_info.specs.Unwind.{unwound, looked_up, unwind_by}
 
 module _ (step : ℕ → Told) (r : Regs) where
-  -- no function: what the `else` of the `let` has is the tag of one of the two other cases
-  none_found : (x : Found) → OneOf (1 ∷ 2 ∷ []) (tag_of the_type x) → unwound (looked_up (looked_told x)) (probes_of (looked_told x)) r ≡ unwind_by step r (looked_told x)
+  -- no function: what the `else` of the `let` has is that the case is another
+  none_found : (x : Found) → ((f : Function) (n : ℕ) → x ≡ Found.Function f n → ⊥) → unwound (looked_up (looked_told x)) (probes_of (looked_told x)) r ≡ unwind_by step r (looked_told x)
   unfolding unwind_by
-  none_found (Found.Function f n) (inl k) = absurd (omega arith)
-  none_found (Found.Function f n) (inr k) = absurd (omega arith)
+  none_found (Found.Function f n) k = absurd (k f n refl)
   none_found (Found.Nothing n) k = refl
   none_found (Found.Refused e n) k = refl
 
   module _ (x : Found) (t : Looked) (e : looked_told x ≡ t) (o : Number) (n : ℕ) where
-    pub passed_on : OneOf (1 ∷ 2 ∷ []) (tag_of the_type x) → o ≡ looked_up (looked_told x) → n ≡ probes_of (looked_told x) → unwound o n r ≡ unwind_by step r t
+    pub passed_on : ((f : Function) (n : ℕ) → x ≡ Found.Function f n → ⊥) → o ≡ looked_up (looked_told x) → n ≡ probes_of (looked_told x) → unwound o n r ≡ unwind_by step r t
     passed_on k p q = rw (p, q) (none_found x k ∙ ap (unwind_by step r) e)
 
     -- a function, and the step by its word

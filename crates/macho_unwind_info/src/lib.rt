@@ -1,5 +1,6 @@
 // The face: the view of a section, and on each machine the call that looks an address up and undoes one frame.
 #![tactic(auto)]
+
 pub mod arm64;
 pub mod view;
 pub mod x86_64;
