@@ -9,11 +9,7 @@ use Rattle.opcodes.proofs.Fields.{number-told}
 use Rattle.brasspurse.specs.declared.words.RegisterAnswer.{RegisterAnswer}
 use Rattle.brasspurse.specs.Flat.{register_answer}
 use Rattle.brasspurse.proofs.Flattened.{known}
-use Rattle.brasspurse.proofs.words.brasspurse_register_x86_64.Statement.{statement}
-use Rattle.brasspurse.proofs.words.brasspurse_register_x86_64.Tie as tie
-
-returns : tie.Need-returns
-returns c = known register_answer told c.before.before.parse.ensures c.enum_told.given.1
+use Rattle.brasspurse.proofs.words.brasspurse_register_x86_64.Goals as goal
 
 -- a register, whose number is the one that was asked about
 flat : (r : RegisterNameX86_64) (n d : ℕ) → register (number_of r) ≡ named_of n → d ≡ dwarf_of r
@@ -22,15 +18,12 @@ flat r n d e q =
     ap {B = RegisterAnswer} (λ (x : ℕ). record { state = 1; number = n; dwarf_number = x }) q
     ∙ ap {B = RegisterAnswer} (λ (x : ℕ). record { state = 1; number = x; dwarf_number = dwarf_of r }) (sym (ap value_of e ∙ number-told n)) ∙ ap register_answer e
 
-returns-2 : tie.Need-returns-2
-returns-2 c =
-    let p = c.before.before.before.before in
-    flat c.before.before.name.given.0.0 p.before.args.n _ (known (λ (t : Told). t) told p.parse.ensures c.before.before.name.given.1) c.dwarf-number.ensures
+pub returns-in-Absent : goal.returns-in-Absent
+returns-in-Absent c = known register_answer told c.parse.ensures c.in-Absent.is
 
-returns-3 : tie.Need-returns-3
-returns-3 c = known register_answer told c.before.before.before.parse.ensures c.before.number.given.1
+pub returns-in-Register : goal.returns-in-Register
+returns-in-Register c =
+    flat c.in-Register.name c.args.n _ (known (λ (t : Told). t) told c.parse.ensures c.in-Register.is) c.dwarf_number.ensures
 
-pub brasspurse-register-x86-64-spec : {M : Type 1} → statement M
-brasspurse-register-x86-64-spec =
-    tie.close
-    (tie.spec (λ c κs. search rules) (λ c. search rules) (λ c. search rules) (λ c κs. search rules) (λ c. search rules) (λ c. search rules) (λ c. search rules) returns returns-2 returns-3)
+pub returns-in-Unknown : goal.returns-in-Unknown
+returns-in-Unknown c = known register_answer told c.parse.ensures c.in-Unknown.is

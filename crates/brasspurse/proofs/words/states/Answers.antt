@@ -3,16 +3,12 @@
 use native.Mathlib.Omega.{arith}
 use lib.Bits.{and_le_r}
 use Rattle.brasspurse.proofs.FieldStates.{any_of, all_of, states-at-once}
-use Rattle.brasspurse.proofs.words.states.Statement.{statement}
-use Rattle.brasspurse.proofs.words.states.Tie as tie
+use Rattle.brasspurse.proofs.words.states.Goals as goal
 
-add-result : tie.Need-overflow-add-result
-add-result c =
+pub overflow_add-result : goal.overflow_add-result
+overflow_add-result c =
     let f = c.args.fields in
     record { fits = omega (arith, and_le_r (any_of f) 0o11111, and_le_r (all_of f) 0o11111) }
 
-returns : tie.Need-returns
+pub returns : goal.returns
 returns c = states-at-once 5 c.args.fields
-
-pub states-spec : {M : Type 1} → statement M
-states-spec = tie.close (tie.spec add-result returns)

@@ -5,14 +5,10 @@ use mathlib.Core.Path.{ap, ◌∙◌}
 use borrow.Author.Rules.{rules}
 use Rattle.brasspurse.specs.declared.words.OpcodeX86_64Answer.{OpcodeX86_64Answer}
 use Rattle.brasspurse.specs.Flat.{x86_answer}
-use Rattle.brasspurse.proofs.words.brasspurse_parse_x86_64.Statement.{statement}
-use Rattle.brasspurse.proofs.words.brasspurse_parse_x86_64.Tie as tie
+use Rattle.brasspurse.proofs.words.brasspurse_parse_x86_64.Goals as goal
 
-returns : tie.Need-returns
+pub returns : goal.returns
 returns c =
-    let n = c.before.before.parse.result in
+    let n = c.parse-parsed.result in
     ap {B = OpcodeX86_64Answer} (λ (s : ℕ). record { value = n.value; answer = n.answer; stack_adjust_in_bytes = n.stack_adjust_in_bytes; fields = n.fields; field_states = s; popped_regs = n.saved_regs }) c.states.ensures
-    ∙ ap x86_answer c.before.before.parse.ensures
-
-pub brasspurse-parse-x86-64-spec : {M : Type 1} → statement M
-brasspurse-parse-x86-64-spec = tie.close (tie.spec (λ c κs. search rules) (λ c κs. search rules) returns)
+    ∙ ap x86_answer c.parse-parsed.ensures
