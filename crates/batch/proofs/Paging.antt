@@ -3,12 +3,10 @@
 use Prim.Native.Nat.{ℕ, suc, ◌+◌, ◌-◌, ◌*◌, ◌≤◌, ◌<◌}
 use mathlib.Core.Path.{◌≡◌, refl, ap, sym, subst, ◌∙◌}
 use mathlib.Core.List.{List}
-use mathlib.Core.Bool.{Bool, cond, true, false, not}
-use lib.Dec.{eqb}
+use mathlib.Core.Bool.{Bool, true, false, not}
 use native.Mathlib.Omega.{arith}
 use native.Mathlib.Decide.{dec_lt}
 use borrow.Author.Tests.{eq-eqb, ne_eqb, not-false}
-use lib.ListN.{drop}
 use Rattle.reader.specs.Reader.{Slice}
 use Rattle.search.specs.declared.Keys.{Keys}
 use Rattle.search.specs.declared.Layout.{Layout}
@@ -37,9 +35,8 @@ use Rattle.lookup.proofs.Cases as cases
 use Rattle.batch.specs.declared.Numbers.{Numbers}
 use Rattle.batch.specs.declared.pages.PageFound.{PageFound}
 use Rattle.batch.specs.declared.pages.Pages.{Pages}
-use Rattle.reader.proofs.Laws.{bytes_of}
-use Rattle.batch.specs.Batch.{numbers, numbers_of, put_of, four_put, four_found}
-use Rattle.batch.specs.Pages.{Read, ReadAs, PageOf, PageFor, Granted, Searched, PagesFor, keys_in, tell_of}
+use Rattle.batch.specs.Batch.{numbers, numbers_of, put_of, four_found}
+use Rattle.batch.specs.Pages.{Read, ReadAs, PageOf, PageFor, Searched, PagesFor, keys_in, tell_of}
 
 pub few-told : (x y : Found) → x ≡ y → probes_of (looked_told x) ≤ 128 → probes_of (looked_told y) ≤ 128
 few-told x y e h = rw e at h

@@ -1,7 +1,6 @@
 -- For the contracts of helpers: the pages of four addresses, and what the search in a page tells (docs/FORMAT.md, 4.1).
 -- Assumes nothing.
-use Rattle.std.specs.Prelude.{ℕ, suc, ◌+◌, ◌-◌, ◌≤◌, ◌<◌, ◌≡◌, cond, List, eqb}
-use Rattle.reader.specs.Reader.{Bytes}
+use Rattle.std.specs.Prelude.{ℕ, suc, ◌+◌, ◌-◌, ◌<◌, ◌≡◌, cond, List, eqb}
 use Rattle.search.specs.declared.Keys.{Keys}
 use Rattle.search.specs.declared.Layout.{Layout}
 use Rattle.search.specs.declared.Spot.{Spot}
@@ -12,8 +11,7 @@ use Rattle.raw.specs.declared.Lists.{Lists}
 use Rattle.raw.specs.Checked.{Checked, good}
 use Rattle.raw.specs.Raw.{grant_of, globals_of, pages_of, page_of}
 use Rattle.entries.specs.declared.Function.{Function}
-use Rattle.entries.specs.declared.Place.{Place}
-use Rattle.entries.specs.Section.{first_of, offset_of, place_at}
+use Rattle.entries.specs.Section.{first_of, offset_of}
 use Rattle.lookup.specs.Lookup.{Looked, refusal, telling}
 use Rattle.batch.specs.declared.pages.PageFound.{PageFound}
 use Rattle.batch.specs.declared.pages.Pages.{Pages}

@@ -1,12 +1,12 @@
 -- What a function's record says is true of the section: its page and its index, and that its opcode stands where its origin says.
 -- Assumes nothing.
-use Prim.Native.Nat.{ℕ, suc, ◌+◌, ◌-◌, ◌*◌, ◌/◌, ◌≤◌, ◌<◌}
+use Prim.Native.Nat.{ℕ, ◌+◌, ◌-◌, ◌*◌, ◌/◌, ◌≤◌, ◌<◌}
 use mathlib.Core.Path.{◌≡◌, refl, ap, sym, subst, ◌∙◌}
 use mathlib.Core.List.{List, []}
 use mathlib.Core.Bool.{Bool, true, false, cond, ◌||◌}
 use native.Mathlib.Nat.{add-zero}
 use native.Mathlib.Omega.{arith}
-use lib.Dec.{T, ltb, leb}
+use lib.Dec.{T, ltb}
 use lib.ListN.{length, drop}
 use Rattle.reader.specs.Reader.{granted_of, word_at, part_of}
 use Rattle.reader.proofs.Laws as reading
@@ -22,7 +22,6 @@ use Rattle.entries.specs.declared.Origin.{Origin}
 use Rattle.entries.specs.declared.Function.{Function}
 use Rattle.entries.specs.Entries.{four_of, is_global, opcode_part, functions_of, locals_of, start_in, end_in, resolve_of, opcode_in, palette_of, origin_in, function_in, function_of}
 use Rattle.entries.specs.Section.{first_of, offset_of, page_at, function_at, entries_at, index_at, opcode_at}
-use Rattle.entries.proofs.Cases.{local-above}
 
 -- what is given passed its checks
 given : (b d : Bool) (x : Checked ℕ) (g : ℕ → Function) (f : Function)

@@ -1,6 +1,6 @@
 -- What is read by a page's place, step by step, on plain values; and after the page was read it is the page's function.
 -- Assumes nothing.
-use Prim.Native.Nat.{ℕ, zero, suc, ◌+◌, ◌-◌, ◌*◌, ◌/◌, ◌%◌, ◌^◌, ◌≤◌, ◌<◌}
+use Prim.Native.Nat.{ℕ, suc, ◌+◌, ◌-◌, ◌*◌, ◌/◌, ◌%◌, ◌^◌, ◌≤◌, ◌<◌}
 use mathlib.Core.Path.{◌≡◌, refl, ap, sym, subst, ◌∙◌}
 use mathlib.Core.List.{List, []}
 use mathlib.Core.Bool.{Bool, true, false, not, cond, ◌||◌, ◌&&◌}
@@ -9,7 +9,7 @@ use native.Mathlib.Decide.{dec_lt, dec_le}
 use borrow.Author.Tests.{ltb-true, lt-ltb, le-ltb, lt-leb, le-leb}
 use lib.Dec.{T, ltb, leb}
 use lib.ListN.{length, take, drop, length-drop}
-use Rattle.reader.specs.Reader.{value, outside, granted_of, read_of, word_at, part_of, Slice, slice, further, part_in}
+use Rattle.reader.specs.Reader.{value, granted_of, read_of, word_at, part_of, Slice, slice, further, part_in}
 use Rattle.reader.proofs.Laws as reading
 use Rattle.search.specs.declared.Layout.{Layout}
 use Rattle.search.specs.Search.{size_of, key_of}
@@ -21,11 +21,10 @@ use Rattle.raw.specs.Raw.{layout, globals_of, page_of, locals_granted}
 use Rattle.raw.proofs.Opens.{starts-inside, functions-granted}
 use Rattle.raw.specs.Checked.{Checked, good, refused, number_of}
 use Rattle.entries.specs.declared.Origin.{Origin}
-use Rattle.entries.specs.declared.Function.{Function}
 use Rattle.entries.specs.declared.Entry.{Entry}
 use Rattle.entries.specs.declared.Place.{Place}
 use Rattle.entries.specs.declared.Resolved.{Resolved}
-use Rattle.entries.specs.Entries.{four_of, four_in, is_global, opcode_part, opcode_part_in, start_in, end_in, resolve_of, opcode_in, palette_of, origin_in, sourced, function_in, functions_of, locals_of, function_of, opcode_told}
+use Rattle.entries.specs.Entries.{four_of, is_global, opcode_part, opcode_part_in, start_in, end_in, resolve_of, opcode_in, origin_in, sourced, function_in, functions_of, locals_of, function_of, opcode_told}
 use Rattle.entries.specs.Section.{first_of, offset_of, page_at, function_at, place_at}
 use Rattle.entries.specs.Placed.{first_at, size_at, list_there, entry_there, list_at, list_in, locals_there, locals_at, no_entry, read_of as read_placed, entry_in, opcode_for, spanning}
 use Rattle.entries.proofs.Cases.{four-part, four-none, part-global, part-local, no-locals, no-opcode, an-opcode, end-inside, end-last}

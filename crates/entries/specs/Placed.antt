@@ -6,7 +6,7 @@ use Rattle.search.specs.Search.{size_of}
 use Rattle.raw.specs.declared.Error.{Error}
 use Rattle.raw.specs.declared.Kind.{Kind}
 use Rattle.raw.specs.declared.Page.{Page}
-use Rattle.raw.specs.Checked.{Checked, good, refused, ◌>>=◌, ◌>>◌, check, number_of}
+use Rattle.raw.specs.Checked.{Checked, good, refused, ◌>>◌, check, number_of}
 use Rattle.raw.specs.Raw.{layout}
 use Rattle.entries.specs.declared.Origin.{Origin}
 use Rattle.entries.specs.declared.Function.{Function}

@@ -1,6 +1,6 @@
 -- For the contracts of helpers: a block on its way (docs/FORMAT.md, 5.4), which functions stand in the list, and what is still to come.
 -- Assumes nothing.
-use Rattle.std.specs.Prelude.{ℕ, suc, ◌+◌, ◌-◌, ◌*◌, ◌/◌, ◌≤◌, ◌<◌, min, ◌≡◌, List, length, set}
+use Rattle.std.specs.Prelude.{ℕ, ◌+◌, ◌-◌, ◌*◌, ◌/◌, ◌≤◌, ◌<◌, min, ◌≡◌, List, length, set}
 use Rattle.raw.specs.declared.Lists.{Lists}
 use Rattle.raw.specs.Checked.{Checked, good, refused, number_of}
 use Rattle.entries.specs.declared.Function.{Function}

@@ -5,9 +5,8 @@ use mathlib.Core.Path.{◌≡◌, ap, sym, ◌∙◌}
 use mathlib.Core.List.{List}
 use native.Mathlib.Omega.{arith}
 use borrow.Author.Tests.{eq-eqb, ne_eqb}
-use lib.ListN.{length, take, drop, length-take}
+use lib.ListN.{drop, length-take}
 use Rattle.reader.specs.Reader.{part_of}
-use Rattle.reader.proofs.Laws.{tail}
 use Rattle.search.specs.declared.Spot.{Spot}
 use Rattle.search.specs.declared.Layout.{Layout}
 use Rattle.search.specs.Search.{size_of, count_of, key_of, search_of}

@@ -19,7 +19,7 @@ use Rattle.entries.specs.declared.Function.{Function}
 use Rattle.entries.specs.Entries.{functions_of}
 use Rattle.entries.specs.Section.{first_of, offset_of, page_at, function_at, opcode_at}
 use Rattle.entries.proofs.Origins.{says-where, stands}
-use Rattle.lookup.specs.Lookup.{Looked, found, nothing, refusal, telling, from_spot, from_page, at_page, from_pages, lookup_of, lookup_in, lookup_on}
+use Rattle.lookup.specs.Lookup.{Looked, found, nothing, refusal, telling, from_page, at_page, from_pages, lookup_of, lookup_in, lookup_on}
 use Rattle.lookup.proofs.Cases.{counted, within, few-pages}
 use Rattle.lookup.proofs.Steps.{no-page, last-page, a-page, a-function, no-function}
 

@@ -13,7 +13,7 @@ use Rattle.reader.proofs.Laws.{fits, length_part}
 use Rattle.raw.specs.declared.Lists.{Lists}
 use Rattle.raw.specs.declared.Parsed.{Parsed}
 use Rattle.raw.specs.declared.Error.{Error}
-use Rattle.raw.specs.Checked.{Checked, good, refused, ◌>>=◌, ◌>>◌, either, check, number_of}
+use Rattle.raw.specs.Checked.{Checked, good, refused, ◌>>◌, either, check, number_of}
 use Rattle.raw.specs.Raw.{grant_of, version_of, header_of, parse_of, pages_of, lists_told}
 
 module _ (s : List ℕ) where

@@ -1,6 +1,6 @@
 -- The three cases of a field in the soundness test: a frame-based word with an unknown field is refused with 24, and so is one that names rbp.
 -- Assumes nothing.
-use Prim.Native.Nat.{ℕ, ◌-◌, ◌<◌}
+use Prim.Native.Nat.{ℕ, ◌<◌}
 use mathlib.Core.Path.{◌≡◌, refl, ap}
 use native.Mathlib.Omega.{arith}
 use Rattle.opcodes.specs.Bits.{kind_of}

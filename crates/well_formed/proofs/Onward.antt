@@ -1,19 +1,18 @@
 -- From a lookup on: the call at the place of the function found answers that very function, so a caller can go on iterating from there. A lookup
 -- doesn't ask for the page's local opcodes, and a cursor's call does: where they don't lie in the section it says 11.
 -- Assumes nothing.
-use Prim.Native.Nat.{ℕ, suc, ◌+◌, ◌<◌}
-use mathlib.Core.Path.{◌≡◌, refl, ap, sym, ◌∙◌}
+use Prim.Native.Nat.{ℕ, ◌+◌, ◌<◌}
+use mathlib.Core.Path.{◌≡◌, refl, ap, ◌∙◌}
 use mathlib.Core.Bool.{Bool, true, false, cond}
 use mathlib.Core.List.{List}
 use native.Mathlib.Omega.{arith}
 use Rattle.raw.specs.declared.Lists.{Lists}
-use Rattle.raw.specs.declared.Page.{Page}
-use Rattle.raw.specs.Checked.{Checked, good, refused, either, ◌>>◌, check}
-use Rattle.raw.specs.Raw.{parse_of, grant_of, page_of, locals_granted, open_of}
+use Rattle.raw.specs.Checked.{Checked, good, refused, ◌>>◌, check}
+use Rattle.raw.specs.Raw.{locals_granted, open_of}
 use Rattle.raw.proofs.Grants.{parsed}
 use Rattle.raw.proofs.Opens.{opened-reads}
 use Rattle.entries.specs.declared.Function.{Function}
-use Rattle.entries.specs.Section.{first_of, offset_of, page_at, opened_at}
+use Rattle.entries.specs.Section.{page_at, opened_at}
 use Rattle.iterate.specs.Iterate.{Step, cursor, answer, next_of, next_in, next_on}
 use Rattle.iterate.proofs.Iteration.{page-refused, page-function}
 use Rattle.lookup.specs.Lookup.{found, lookup_of, lookup_in, lookup_on}

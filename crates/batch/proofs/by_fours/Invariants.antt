@@ -1,16 +1,9 @@
 -- `batch::by_fours` meets its contract: each turn writes four answers more.
 -- Assumes nothing.
-use borrow.Author.Rules.{rules}
-use Prim.Native.Nat.{ℕ, ◌-◌, ◌≤◌}
-use mathlib.Core.Path.{◌≡◌, ap, ◌∙◌}
-use mathlib.Core.List.{List}
-use native.Mathlib.Omega.{arith}
-use lib.ListN.{length}
-use Rattle.reader.proofs.Laws.{bytes_of}
-use Rattle.raw.proofs.Grants.{parsed}
+use Prim.Native.Nat.{◌-◌, ◌≤◌}
+use mathlib.Core.Path.{◌≡◌}
 use Rattle.lookup.specs.Lookup.{lookup_on}
 use Rattle.batch.specs.Batch.{standing}
-use Rattle.batch.proofs.Batches.{none_yet, four-on, length-standing}
 use Rattle.batch.proofs.by_fours.Given as goal
 
 abbrev pub invariant-loop-k : goal.invariant-loop-k

@@ -1,6 +1,5 @@
 -- `batch::flat` meets its contract: six numbers for each case.
 -- Assumes nothing.
-use borrow.Author.Rules.{rules}
 use mathlib.Core.Path.{ap, sym}
 use native.Mathlib.Omega.{arith}
 use Rattle.lookup.specs.declared.Found.{Found}

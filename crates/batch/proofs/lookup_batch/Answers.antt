@@ -1,6 +1,5 @@
 -- `batch::lookup_batch` meets its contract: the answers that there is room for.
 -- Assumes nothing.
-use borrow.Author.Rules.{rules}
 use mathlib.Core.Path.{sym}
 use native.Mathlib.Omega.{arith}
 use Rattle.lookup.specs.Lookup.{lookup_on}

@@ -5,12 +5,11 @@ use borrow.Author.Rules.{rules}
 use Rattle.batch.proofs.Batches.{after-put, one_on}
 use Rattle.lookup.proofs.Probes.{few_on}
 use Rattle.batch.specs.Batch.{standing}
-use Rattle.lookup.specs.Lookup.{lookup_on, probes_of}
+use Rattle.lookup.specs.Lookup.{probes_of}
 use lib.ListN.{length, get_or}
 use native.Mathlib.Omega.{arith}
-use mathlib.Core.List.{List}
-use mathlib.Core.Path.{◌≡◌, refl, ap, ◌∙◌}
-use Prim.Native.Nat.{ℕ, ◌-◌, ◌≤◌, ◌<◌, ◌^◌}
+use mathlib.Core.Path.{refl, ap, ◌∙◌}
+use Prim.Native.Nat.{◌<◌, ◌^◌}
 use Rattle.batch.proofs.one_by_one.Goals as goal
 
 pub loop-k-init : goal.loop-k-init

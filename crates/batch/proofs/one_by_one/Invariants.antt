@@ -1,16 +1,11 @@
 -- `batch::one_by_one` meets its contract: each turn writes an answer more.
 -- Assumes nothing.
-use Rattle.batch.specs.Batch.{numbers_of}
-use borrow.Author.Rules.{rules}
-use Rattle.batch.proofs.Batches.{after-put, one_on}
-use Rattle.lookup.proofs.Probes.{few_on}
 use Rattle.batch.specs.Batch.{standing}
-use Rattle.lookup.specs.Lookup.{lookup_on, probes_of}
-use lib.ListN.{length, get_or}
-use native.Mathlib.Omega.{arith}
+use Rattle.lookup.specs.Lookup.{lookup_on}
+use lib.ListN.{length}
 use mathlib.Core.List.{List}
-use mathlib.Core.Path.{◌≡◌, refl, ap, ◌∙◌}
-use Prim.Native.Nat.{ℕ, ◌-◌, ◌≤◌, ◌<◌, ◌^◌}
+use mathlib.Core.Path.{◌≡◌}
+use Prim.Native.Nat.{ℕ, ◌-◌, ◌≤◌}
 use Rattle.batch.proofs.one_by_one.Given as goal
 
 abbrev pub invariant-loop-k : goal.invariant-loop-k

@@ -3,7 +3,6 @@
 use Rattle.batch.proofs.Batches.{set-six}
 use lib.ListN.{length-set}
 use native.Mathlib.Omega.{arith}
-use borrow.Author.Rules.{rules}
 use Rattle.batch.proofs.put.Goals as goal
 
 pub bounds-out-at-2 : goal.bounds-out-at-2

@@ -4,7 +4,6 @@ use Rattle.batch.proofs.Batches.{none_yet}
 use Rattle.raw.specs.Raw.{lists_told}
 use native.Mathlib.Omega.{arith}
 use mathlib.Core.Path.{ap, sym, ◌∙◌}
-use borrow.Author.Rules.{rules}
 use Rattle.batch.proofs.whole_fours.Goals as goal
 
 pub by_fours-requires : goal.by_fours-requires

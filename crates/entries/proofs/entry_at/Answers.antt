@@ -1,6 +1,5 @@
 -- `entries::entry_at` meets its contract: an entry that is there, by the page's kind, or none.
 -- Assumes nothing.
-use borrow.Author.Rules.{rules}
 use native.Mathlib.Omega.{arith}
 use Rattle.raw.specs.declared.Kind.{Kind}
 use Rattle.entries.proofs.Placed.{entry-there, no-entry, regular-entry, compressed-entry}

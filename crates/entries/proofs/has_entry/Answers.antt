@@ -1,6 +1,5 @@
 -- `entries::has_entry` meets its contract: the index, then the list.
 -- Assumes nothing.
-use borrow.Author.Rules.{rules}
 use Rattle.entries.proofs.Placed.{past-entries, tests-entry}
 use Rattle.entries.proofs.has_entry.Goals as goal
 

@@ -1,6 +1,5 @@
 -- `entries::has_list` meets its contract: the test of the list.
 -- Assumes nothing.
-use borrow.Author.Rules.{rules}
 use mathlib.Core.Path.{refl}
 use Rattle.reader.specs.Reader.{granted_of}
 use Rattle.entries.specs.Placed.{list_there}

@@ -1,6 +1,5 @@
 -- `entries::has_locals` meets its contract: the test of the list.
 -- Assumes nothing.
-use borrow.Author.Rules.{rules}
 use mathlib.Core.Path.{refl}
 use Rattle.reader.specs.Reader.{granted_of}
 use Rattle.entries.specs.Placed.{locals_there}

@@ -1,6 +1,5 @@
 -- `entries::inside` meets its contract: the part lies inside.
 -- Assumes nothing.
-use borrow.Author.Rules.{rules}
 use mathlib.Core.Path.{refl}
 use Rattle.entries.proofs.Placed.{part-inside}
 use Rattle.entries.proofs.inside.Goals as goal

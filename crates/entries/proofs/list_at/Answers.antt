@@ -1,6 +1,5 @@
 -- `entries::list_at` meets its contract: the list lies in the section.
 -- Assumes nothing.
-use borrow.Author.Rules.{rules}
 use Rattle.entries.proofs.Placed.{list_inside, sum_inside, part-is}
 use Rattle.entries.proofs.list_at.Goals as goal
 

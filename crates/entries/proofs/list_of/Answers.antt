@@ -1,6 +1,5 @@
 -- `entries::list_of` meets its contract: the list that lies in the section, or none.
 -- Assumes nothing.
-use borrow.Author.Rules.{rules}
 use mathlib.Core.Path.{sym, ◌∙◌}
 use Rattle.entries.proofs.Placed.{listed, unlisted}
 use Rattle.entries.proofs.list_of.Goals as goal

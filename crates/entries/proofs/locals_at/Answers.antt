@@ -1,8 +1,6 @@
 -- `entries::locals_at` meets its contract: the list lies in the section, or there is none.
 -- Assumes nothing.
-use borrow.Author.Rules.{rules}
 use mathlib.Core.Path.{sym, ◌∙◌}
-use borrow.Author.Tests.{not-true, not-false}
 use Rattle.reader.proofs.Laws.{bytes_of}
 use Rattle.entries.proofs.Placed.{locals-inside, none-there, are-there}
 use Rattle.entries.proofs.locals_at.Goals as goal

@@ -1,6 +1,5 @@
 -- `entries::named` meets its contract: what there is no part of is refused, by whether the local opcodes are there.
 -- Assumes nothing.
-use borrow.Author.Rules.{rules}
 use mathlib.Core.Path.{ap, ◌∙◌}
 use Rattle.reader.proofs.Laws.{bytes_of}
 use Rattle.raw.specs.Checked.{good}

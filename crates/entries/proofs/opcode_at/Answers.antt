@@ -1,6 +1,5 @@
 -- `entries::opcode_at` meets its contract: the entry's own opcode, or the one that its index names.
 -- Assumes nothing.
-use borrow.Author.Rules.{rules}
 use native.Mathlib.Omega.{arith}
 use Rattle.raw.specs.declared.Kind.{Kind}
 use Rattle.entries.proofs.Cases.{regular-opcode, compressed-opcode}

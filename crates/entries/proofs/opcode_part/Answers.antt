@@ -1,6 +1,5 @@
 -- `entries::opcode_part` meets its contract: of the one palette or of the other, by the index.
 -- Assumes nothing.
-use borrow.Author.Rules.{rules}
 use mathlib.Core.Path.{sym, ◌∙◌}
 use native.Mathlib.Omega.{arith}
 use Rattle.entries.proofs.Cases.{global-below, local-above}

@@ -1,6 +1,5 @@
 -- `entries::palette_of` meets its contract: by the index.
 -- Assumes nothing.
-use borrow.Author.Rules.{rules}
 use mathlib.Core.Path.{sym, ◌∙◌}
 use mathlib.Core.Bool.{true, false}
 use Rattle.entries.proofs.Cases.{is-palette}

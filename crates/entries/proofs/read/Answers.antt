@@ -1,9 +1,7 @@
 -- `entries::read` meets its contract: 8 or 10 for the entry, 13 for start or end, then the opcode's.
 -- Assumes nothing.
-use borrow.Author.Rules.{rules}
 use mathlib.Core.Path.{refl, sym, ◌∙◌}
 use native.Mathlib.Omega.{arith}
-use borrow.Author.Tests.{not-true, not-false}
 use Rattle.entries.proofs.Placed.{list-is, list-long, word-is, entry_listed, not_there_lem, too-high, is_read}
 use Rattle.entries.proofs.read.Goals as goal
 

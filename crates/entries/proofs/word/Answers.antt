@@ -1,6 +1,5 @@
 -- `entries::word` meets its contract: four bytes that are there make the number there.
 -- Assumes nothing.
-use borrow.Author.Rules.{rules}
 use mathlib.Core.Path.{◌∙◌}
 use Rattle.search.proofs.Turns.{four_bytes}
 use Rattle.entries.proofs.word.Goals as goal

@@ -1,18 +1,10 @@
 -- `fill::fill_of` meets its contract: page after page, until the room, the pages or the answers end.
 -- Assumes nothing.
-use borrow.Author.Rules.{rules}
 use Prim.Native.Nat.{◌-◌, ◌<◌}
-use mathlib.Core.Path.{◌≡◌, refl, ap, sym, ◌∙◌}
-use native.Mathlib.Omega.{arith}
-use denote.Enum.Declared.{tag_of}
-use Rattle.raw.specs.Raw.{globals_of, pages_of, page_told}
-use Rattle.entries.proofs.Places.{opens-there}
+use mathlib.Core.Path.{◌≡◌}
+use Rattle.raw.specs.Raw.{globals_of, pages_of}
 use Rattle.iterate.specs.Iterate.{cursor}
-use Rattle.reader.proofs.Laws.{bytes_of}
 use Rattle.fill.specs.Block.{OnWay}
-use Rattle.fill.specs.contracts.Stop.{the_type}
-use Rattle.fill.proofs.Turns as turns
-use Rattle.fill.proofs.Block as block
 use Rattle.fill.proofs.fill_of.Given as goal
 
 abbrev pub invariant-loop-k : goal.invariant-loop-k

@@ -1,11 +1,8 @@
 -- `fill::fill_page` meets its contract: each turn writes the next function, or says why not.
 -- Assumes nothing.
-use borrow.Author.Rules.{rules}
 use Prim.Native.Nat.{◌-◌}
-use native.Mathlib.Omega.{arith}
 use Rattle.entries.specs.Placed.{read_of}
 use Rattle.fill.specs.Block.{InPage}
-use Rattle.fill.proofs.Turns as turns
 use Rattle.fill.proofs.fill_page.Given as goal
 
 abbrev pub invariant-loop-i : goal.invariant-loop-i

@@ -1,6 +1,5 @@
 -- `iterate::address_range_in` meets its contract: as the lists are granted or refused.
 -- Assumes nothing.
-use borrow.Author.Rules.{rules}
 use mathlib.Core.Path.{refl, ap}
 use Rattle.raw.proofs.Grants.{where-whole, where-refused}
 use Rattle.raw.specs.Checked.{good}

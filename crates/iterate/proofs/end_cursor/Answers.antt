@@ -1,6 +1,5 @@
 -- `iterate::end_cursor` meets its contract: the last page, or 0.
 -- Assumes nothing.
-use borrow.Author.Rules.{rules}
 use Prim.Native.Nat.{ℕ}
 use mathlib.Core.Path.{ap}
 use native.Mathlib.Omega.{arith}

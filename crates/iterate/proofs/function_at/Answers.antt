@@ -1,6 +1,5 @@
 -- `iterate::function_at` meets its contract: the function of the page that the entry names.
 -- Assumes nothing.
-use borrow.Author.Rules.{rules}
 use Rattle.iterate.proofs.Cases.{function-there}
 use Rattle.reader.proofs.Laws.{bytes_of}
 use Rattle.iterate.proofs.function_at.Goals as goal

@@ -1,6 +1,5 @@
 -- `iterate::next_function_in` meets its contract: as the lists are granted or refused.
 -- Assumes nothing.
-use borrow.Author.Rules.{rules}
 use mathlib.Core.Path.{refl}
 use Rattle.raw.proofs.Grants.{where-whole, where-refused}
 use Rattle.iterate.specs.Iterate.{next_in}

@@ -1,12 +1,8 @@
 -- `iterate::next_of` meets its contract: each turn tells what the cursor asked for tells, from where it stands.
 -- Assumes nothing.
-use borrow.Author.Rules.{rules}
 use Prim.Native.Nat.{◌-◌, ◌<◌}
-use mathlib.Core.Path.{◌≡◌, refl, ap, sym, ◌∙◌}
-use native.Mathlib.Omega.{arith}
-use Rattle.raw.specs.Raw.{page_told}
+use mathlib.Core.Path.{◌≡◌}
 use Rattle.iterate.specs.Iterate.{cursor, next_of}
-use Rattle.iterate.proofs.Loop.{stops-at-end, stops-refused, stops-answered, goes_on}
 use Rattle.iterate.proofs.next_of.Given as goal
 
 abbrev pub invariant-loop-p : goal.invariant-loop-p

@@ -1,6 +1,5 @@
 -- `iterate::open_at` meets its contract: the page that the entry names.
 -- Assumes nothing.
-use borrow.Author.Rules.{rules}
 use Rattle.entries.proofs.Places.{opens-there}
 use Rattle.reader.proofs.Laws.{bytes_of}
 use Rattle.iterate.proofs.open_at.Goals as goal

@@ -1,6 +1,5 @@
 -- `iterate::range_of` meets its contract: no pages, or the first and the last.
 -- Assumes nothing.
-use borrow.Author.Rules.{rules}
 use Rattle.iterate.proofs.Cases.{no-pages, some-pages}
 use Rattle.reader.proofs.Laws.{bytes_of}
 use Rattle.iterate.proofs.range_of.Goals as goal

@@ -1,6 +1,5 @@
 -- `listing::digit` meets its contract: its letter, by the law over the sixteen digits.
 -- Assumes nothing.
-use borrow.Author.Rules.{rules}
 use native.Mathlib.Omega.{arith}
 use Rattle.listing.proofs.Digits.{letter}
 use Rattle.listing.proofs.digit.Goals as goal

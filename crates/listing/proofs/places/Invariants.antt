@@ -1,11 +1,8 @@
 -- `listing::places` meets its contract: the digits counted and those of the rest are one more than those of n.
 -- Assumes nothing.
-use borrow.Author.Rules.{rules}
 use mathlib.Core.Path.{◌≡◌}
-use native.Mathlib.Omega.{arith}
 use Prim.Native.Nat.{◌+◌, ◌≤◌}
 use Rattle.listing.specs.Listing.{places_of}
-use Rattle.listing.proofs.Digits.{small, one_more}
 use Rattle.listing.proofs.places.Given as goal
 
 abbrev pub invariant-loop-rest : goal.invariant-loop-rest

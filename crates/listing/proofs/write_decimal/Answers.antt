@@ -1,12 +1,8 @@
 -- `listing::write_decimal` meets its contract: the digits left to write, over those written, are all of them over the list at first.
 -- Assumes nothing.
-use borrow.Author.Rules.{rules}
-use mathlib.Core.Path.{◌≡◌, refl, ◌∙◌}
+use mathlib.Core.Path.{refl, ◌∙◌}
 use native.Mathlib.Omega.{arith}
-use Prim.Native.Nat.{◌≤◌}
-use lib.ListN.{length, length-set}
-use lib.Seq.{sets}
-use Rattle.listing.specs.Listing.{digits_of}
+use lib.ListN.{length-set}
 use Rattle.listing.proofs.Stores.{one_less, none_left}
 use Rattle.listing.proofs.write_decimal.Goals as goal
 

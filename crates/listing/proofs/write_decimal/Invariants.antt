@@ -1,13 +1,10 @@
 -- `listing::write_decimal` meets its contract: the digits left to write, over those written, are all of them over the list at first.
 -- Assumes nothing.
-use borrow.Author.Rules.{rules}
-use mathlib.Core.Path.{◌≡◌, refl, ◌∙◌}
-use native.Mathlib.Omega.{arith}
+use mathlib.Core.Path.{◌≡◌}
 use Prim.Native.Nat.{◌≤◌}
-use lib.ListN.{length, length-set}
+use lib.ListN.{length}
 use lib.Seq.{sets}
 use Rattle.listing.specs.Listing.{digits_of}
-use Rattle.listing.proofs.Stores.{one_less, none_left}
 use Rattle.listing.proofs.write_decimal.Given as goal
 
 abbrev pub invariant-loop-i : goal.invariant-loop-i

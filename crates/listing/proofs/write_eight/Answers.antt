@@ -1,6 +1,5 @@
 -- `listing::write_eight` meets its contract: its high half, and after it its low half.
 -- Assumes nothing.
-use borrow.Author.Rules.{rules}
 use mathlib.Core.Path.{ap, sym, ◌∙◌}
 use Prim.Native.Nat.{◌/◌}
 use lib.Seq.{sets}

@@ -1,6 +1,5 @@
 -- `listing::write_end` meets its contract: the word, the decimal and the newline are stored where they fit.
 -- Assumes nothing.
-use borrow.Author.Rules.{rules}
 use mathlib.Core.Path.{refl}
 use native.Mathlib.Omega.{arith}
 use Prim.Native.Nat.{ℕ}

@@ -1,6 +1,5 @@
 -- `listing::write_line` meets its contract: six runs of stores, each right after the one before.
 -- Assumes nothing.
-use borrow.Author.Rules.{rules}
 use native.Mathlib.Omega.{arith}
 use lib.ListN.{length-set}
 use Rattle.listing.specs.Listing.{hex_of, line_of}

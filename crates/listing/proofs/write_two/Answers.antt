@@ -1,6 +1,5 @@
 -- `listing::write_two` meets its contract: two stores, of the number's last two digits.
 -- Assumes nothing.
-use borrow.Author.Rules.{rules}
 use native.Mathlib.Omega.{arith}
 use lib.ListN.{length-set}
 use Rattle.listing.specs.Listing.{digits_of}

@@ -1,6 +1,5 @@
 -- `lookup::answered` meets its contract: the answer's own case, with the probes.
 -- Assumes nothing.
-use borrow.Author.Rules.{rules}
 use mathlib.Core.Path.{ap, sym}
 use Rattle.entries.specs.declared.Answer.{Answer}
 use Rattle.entries.specs.Entries.{function_told}

@@ -1,7 +1,6 @@
 -- `lookup::at_page` meets its contract: the page is refused, or searched.
 -- Assumes nothing.
 use mathlib.Core.Path.{ap, sym, ◌∙◌}
-use borrow.Author.Rules.{rules}
 use Rattle.raw.specs.Raw.{globals_of, page_told}
 use Rattle.entries.proofs.Places.{first-is, next-is, offset-is}
 use Rattle.lookup.proofs.Straight.{globals-inside}

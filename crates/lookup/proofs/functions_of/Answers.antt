@@ -1,6 +1,5 @@
 -- `lookup::functions_of` meets its contract: the part that the page names, by its kind.
 -- Assumes nothing.
-use borrow.Author.Rules.{rules}
 use Rattle.raw.specs.declared.Kind.{Kind}
 use Rattle.lookup.proofs.Straight.{kind-inside, kind-list}
 use Rattle.lookup.proofs.functions_of.Goals as goal

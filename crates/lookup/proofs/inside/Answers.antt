@@ -1,7 +1,6 @@
 -- `lookup::inside` meets its contract: the part lies inside.
 -- Assumes nothing.
 use Rattle.reader.proofs.Laws.{lies-inside}
-use borrow.Author.Rules.{rules}
 use Rattle.lookup.proofs.inside.Goals as goal
 
 pub returns : goal.returns

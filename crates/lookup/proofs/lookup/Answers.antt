@@ -1,6 +1,5 @@
 -- `lookup::lookup` meets its contract: the lookup on the header's lists, or what refuses them.
 -- Assumes nothing.
-use borrow.Author.Rules.{rules}
 use mathlib.Core.Path.{refl, ap, sym, ◌∙◌}
 use Rattle.raw.specs.Raw.{lists_told}
 use Rattle.raw.proofs.Grants.{parsed, where-whole, where-refused}

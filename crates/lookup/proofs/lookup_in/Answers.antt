@@ -1,6 +1,5 @@
 -- `lookup::lookup_in` meets its contract: as the lists are granted or refused.
 -- Assumes nothing.
-use borrow.Author.Rules.{rules}
 use mathlib.Core.Path.{refl, ap, sym, ◌∙◌}
 use Rattle.raw.specs.Raw.{lists_told}
 use Rattle.raw.proofs.Grants.{granted-again, where-whole, where-refused}

@@ -1,6 +1,5 @@
 -- `macho_unwind_info::looked_up` meets its contract: case by case.
 -- Assumes nothing.
-use borrow.Author.Rules.{rules}
 use mathlib.Core.Path.{ap, sym}
 use Rattle.lookup.specs.declared.Found.{Found}
 use Rattle.lookup.specs.Lookup.{looked_told}

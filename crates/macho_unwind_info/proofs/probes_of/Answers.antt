@@ -1,6 +1,5 @@
 -- `macho_unwind_info::probes_of` meets its contract: case by case.
 -- Assumes nothing.
-use borrow.Author.Rules.{rules}
 use mathlib.Core.Path.{ap}
 use native.Mathlib.Omega.{arith}
 use Rattle.lookup.specs.declared.Found.{Found}

@@ -7,7 +7,6 @@ use native.Mathlib.Omega.{arith}
 use native.Mathlib.Nat.{mul-le-mul, div-le_self}
 use lib.Bits.{bit_and}
 use lib.ListN.{get_or, take, replicate}
-use borrow.Author.Rules.{rules}
 use borrow.Author.Tests.{lt-ltb, le-ltb}
 use Rattle.permutation.specs.Permutation.{bounds, Told, accepted, registers_of, decode_of}
 use Rattle.permutation.specs.Table.{places_of, apart_of, kept_of}

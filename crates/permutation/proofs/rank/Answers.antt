@@ -1,9 +1,7 @@
 -- `permutation::rank` meets its contract: n counts the zeros among the i flags passed.
 -- Assumes nothing.
-use Prim.Native.Nat.{ℕ, suc, ◌+◌, ◌-◌, ◌<◌, ◌≤◌}
+use Prim.Native.Nat.{ℕ, suc, ◌+◌, ◌<◌, ◌≤◌}
 use mathlib.Core.Path.{◌≡◌, refl, ap, ◌∙◌}
-use mathlib.Core.Logic.{⊎_elim}
-use borrow.Author.Rules.{rules}
 use borrow.Kind.Array.{good_length, e_int}
 use mir.Syntax.{w8}
 use native.Mathlib.Omega.{arith}

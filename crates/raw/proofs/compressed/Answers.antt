@@ -1,8 +1,6 @@
 -- `raw::compressed` meets its contract: each check in order, with what was read.
 -- Assumes nothing.
-use borrow.Author.Rules.{rules}
 use mathlib.Core.Path.{sym, ◌∙◌}
-use borrow.Author.Tests.{not-true, not-false}
 use Rattle.raw.proofs.Opens.{no-compressed, no-compressed-functions, is-compressed}
 use Rattle.raw.proofs.compressed.Goals as goal
 

@@ -1,6 +1,5 @@
 -- `raw::first_address` meets its contract: the key of the entry.
 -- Assumes nothing.
-use borrow.Author.Rules.{rules}
 use Rattle.raw.specs.Raw.{first_in}
 use Rattle.raw.proofs.first_address.Goals as goal
 

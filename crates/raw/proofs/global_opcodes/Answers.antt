@@ -1,6 +1,5 @@
 -- `raw::global_opcodes` meets its contract: the part that the list is.
 -- Assumes nothing.
-use borrow.Author.Rules.{rules}
 use Rattle.raw.specs.Raw.{globals_of}
 use Rattle.raw.proofs.global_opcodes.Goals as goal
 

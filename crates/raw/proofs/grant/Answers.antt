@@ -1,8 +1,6 @@
 -- `raw::grant` meets its contract: each list is granted or refused, in order.
 -- Assumes nothing.
-use borrow.Author.Rules.{rules}
 use mathlib.Core.Path.{sym, ◌∙◌}
-use borrow.Author.Tests.{not-true, not-false}
 use Rattle.raw.proofs.Grants.{no-globals, no-pages, both-lists}
 use Rattle.raw.proofs.grant.Goals as goal
 

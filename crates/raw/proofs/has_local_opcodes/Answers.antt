@@ -1,6 +1,5 @@
 -- `raw::has_local_opcodes` meets its contract: the test of the list.
 -- Assumes nothing.
-use borrow.Author.Rules.{rules}
 use Rattle.raw.specs.Raw.{locals_granted}
 use Rattle.raw.proofs.has_local_opcodes.Goals as goal
 

@@ -1,6 +1,5 @@
 -- `raw::page_offset` meets its contract: the number after the key.
 -- Assumes nothing.
-use borrow.Author.Rules.{rules}
 use Rattle.raw.specs.Raw.{offset_in}
 use Rattle.raw.proofs.page_offset.Goals as goal
 

@@ -1,6 +1,5 @@
 -- `raw::pages` meets its contract: the part that the list is.
 -- Assumes nothing.
-use borrow.Author.Rules.{rules}
 use Rattle.raw.specs.Raw.{pages_of}
 use Rattle.raw.proofs.pages.Goals as goal
 

@@ -1,9 +1,7 @@
 -- `raw::parse` meets its contract: without a header, or with another version, it is refused; else its lists are granted or not.
 -- Assumes nothing.
-use borrow.Author.Rules.{rules}
 use mathlib.Core.Path.{sym, ◌∙◌}
 use native.Mathlib.Omega.{arith}
-use borrow.Author.Tests.{not-true, not-false}
 use Rattle.raw.proofs.Grants.{no_header, other-version, header_read}
 use Rattle.raw.proofs.parse.Goals as goal
 

@@ -1,8 +1,6 @@
 -- `raw::regular` meets its contract: each check in order, with what was read.
 -- Assumes nothing.
-use borrow.Author.Rules.{rules}
 use mathlib.Core.Path.{sym, ◌∙◌}
-use borrow.Author.Tests.{not-true, not-false}
 use Rattle.raw.proofs.Opens.{no-regular, no-regular-functions, is-regular}
 use Rattle.raw.proofs.regular.Goals as goal
 

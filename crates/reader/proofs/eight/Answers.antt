@@ -1,6 +1,5 @@
 -- `reader::eight` meets its contract: the two halves make the number, by the law over the width.
 -- Assumes nothing.
-use borrow.Author.Rules.{rules}
 use native.Mathlib.Omega.{arith}
 use Rattle.reader.proofs.Laws.{split}
 use Rattle.reader.proofs.eight.Goals as goal

@@ -1,6 +1,5 @@
 -- `reader::from_le_bytes` meets its contract: the number of a list of four bytes, computed.
 -- Assumes nothing.
-use borrow.Author.Rules.{rules}
 use native.Mathlib.Omega.{arith}
 use Rattle.reader.specs.Reader.{number_at}
 use Rattle.reader.proofs.from_le_bytes.Goals as goal

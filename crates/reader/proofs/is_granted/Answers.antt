@@ -1,6 +1,5 @@
 -- `reader::is_granted` meets its contract: at each return the tests that led there say how the sum compares with the length.
 -- Assumes nothing.
-use borrow.Author.Rules.{rules}
 use native.Mathlib.Omega.{arith}
 use mathlib.Core.Path.{sym}
 use Prim.Native.Nat.{◌+◌}

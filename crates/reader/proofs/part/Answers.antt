@@ -1,6 +1,5 @@
 -- `reader::part` meets its contract: the part starts past the end, runs past it, or lies inside.
 -- Assumes nothing.
-use borrow.Author.Rules.{rules}
 use borrow.Author.Tests.{le-leb, lt-leb}
 use Rattle.reader.proofs.Laws.{placed, starts-past, runs_past, lies-inside}
 use Rattle.reader.proofs.part.Goals as goal

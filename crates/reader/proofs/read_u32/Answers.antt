@@ -1,6 +1,5 @@
 -- `reader::read_u32` meets its contract: granted, it is the number that `four` read.
 -- Assumes nothing.
-use borrow.Author.Rules.{rules}
 use mathlib.Core.Path.{ap, sym, ◌∙◌}
 use Rattle.reader.specs.Reader.{value}
 use Rattle.reader.proofs.Laws.{fits, fits_not, granted, refused}

@@ -1,6 +1,5 @@
 -- `reader::two` meets its contract: two bytes make the number, by the law over the width.
 -- Assumes nothing.
-use borrow.Author.Rules.{rules}
 use native.Mathlib.Omega.{arith}
 use Prim.Native.Nat.{◌+◌}
 use Rattle.reader.proofs.Laws.{split, one_byte}

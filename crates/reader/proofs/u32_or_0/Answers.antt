@@ -1,6 +1,5 @@
 -- `reader::u32_or_0` meets its contract: what `read_u32` answered, with 0 for "outside".
 -- Assumes nothing.
-use borrow.Author.Rules.{rules}
 use mathlib.Core.Path.{ap, sym, ◌∙◌}
 use Rattle.reader.specs.declared.Read32.{Read32}
 use Rattle.reader.specs.Reader.{word_at, or_zero, told32}

@@ -1,8 +1,6 @@
 -- `search::by_two` meets its contract: each turn is two rounds on the way.
 -- Assumes nothing.
 use native.Mathlib.Omega.{arith}
-use Rattle.search.specs.Search.{key_of}
-use Rattle.search.specs.Steps.{going, OnWay}
 use Rattle.search.proofs.Turns.{ready, goes_on, few, then, onward}
 use Rattle.search.proofs.by_two.Goals as goal
 

@@ -1,6 +1,5 @@
 -- `search::count_of` meets its contract: the bytes by those of an entry, in each layout.
 -- Assumes nothing.
-use borrow.Author.Rules.{rules}
 use mathlib.Core.Path.{ap, sym}
 use Rattle.search.specs.declared.Layout.{Layout}
 use Rattle.search.specs.Search.{count_of}

@@ -1,6 +1,5 @@
 -- `search::key` meets its contract: the number at the entry's place, in each layout.
 -- Assumes nothing.
-use borrow.Author.Rules.{rules}
 use Prim.Native.Nat.{ℕ, ◌%◌}
 use mathlib.Core.Path.{ap, sym, ◌∙◌}
 use Rattle.search.specs.declared.Layout.{Layout}

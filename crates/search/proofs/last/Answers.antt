@@ -1,6 +1,5 @@
 -- `search::last` meets its contract: the probe decides between the two ends; where no entry is left they are one.
 -- Assumes nothing.
-use borrow.Author.Rules.{rules}
 use native.Mathlib.Omega.{arith}
 use Rattle.search.proofs.Turns.{entry-inside, few, clamped, ends, none}
 use Rattle.search.proofs.last.Goals as goal

@@ -1,6 +1,5 @@
 -- `search::step` meets its contract: the round goes up or down by the key that was probed.
 -- Assumes nothing.
-use borrow.Author.Rules.{rules}
 use native.Mathlib.Omega.{arith}
 use Rattle.search.proofs.Turns.{entry-inside, less-inside, round}
 use Rattle.search.proofs.step.Goals as goal

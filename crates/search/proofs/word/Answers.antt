@@ -1,6 +1,5 @@
 -- `search::word` meets its contract: four bytes that are there make the number there.
 -- Assumes nothing.
-use borrow.Author.Rules.{rules}
 use mathlib.Core.Path.{◌∙◌}
 use Rattle.search.proofs.Turns.{four_bytes}
 use Rattle.search.proofs.word.Goals as goal

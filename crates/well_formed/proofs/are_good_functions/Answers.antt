@@ -1,12 +1,8 @@
 -- `well_formed::are_good_functions` meets its contract: all functions before i are good.
 -- Assumes nothing.
-use borrow.Author.Rules.{rules}
-use Prim.Native.Nat.{◌-◌, ◌≤◌, zero-le}
-use mathlib.Core.Path.{◌≡◌, sym, ◌∙◌}
-use mathlib.Core.Bool.{true}
-use borrow.Author.Tests.{not-true, not-false}
+use Prim.Native.Nat.{zero-le}
+use mathlib.Core.Path.{sym, ◌∙◌}
 use native.Mathlib.Omega.{arith}
-use Rattle.well_formed.specs.WellFormed.{all, good_read}
 use Rattle.well_formed.proofs.Cases.{starts, goes_on, stops, ends}
 use Rattle.well_formed.proofs.are_good_functions.Goals as goal
 

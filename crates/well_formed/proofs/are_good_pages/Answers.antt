@@ -1,12 +1,9 @@
 -- `well_formed::are_good_pages` meets its contract: all pages before p are good.
 -- Assumes nothing.
-use borrow.Author.Rules.{rules}
-use Prim.Native.Nat.{◌-◌, ◌≤◌, zero-le}
-use mathlib.Core.Path.{◌≡◌, sym, ◌∙◌}
-use mathlib.Core.Bool.{true}
-use borrow.Author.Tests.{not-true, not-false}
+use Prim.Native.Nat.{zero-le}
+use mathlib.Core.Path.{sym, ◌∙◌}
 use native.Mathlib.Omega.{arith}
-use Rattle.well_formed.specs.WellFormed.{all, good_page, good_pages}
+use Rattle.well_formed.specs.WellFormed.{good_pages}
 use Rattle.well_formed.proofs.Cases.{starts, goes_on, stops, ends}
 use Rattle.well_formed.proofs.are_good_pages.Goals as goal
 

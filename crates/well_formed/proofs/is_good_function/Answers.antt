@@ -1,6 +1,5 @@
 -- `well_formed::is_good_function` meets its contract: the function is given and its ends are compared, or it is refused.
 -- Assumes nothing.
-use borrow.Author.Rules.{rules}
 use lib.Dec.{ltb}
 use Rattle.well_formed.proofs.Cases.{is-told}
 use Rattle.well_formed.proofs.is_good_function.Goals as goal

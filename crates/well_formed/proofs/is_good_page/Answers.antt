@@ -1,6 +1,5 @@
 -- `well_formed::is_good_page` meets its contract: the page is refused, or opened and tested.
 -- Assumes nothing.
-use borrow.Author.Rules.{rules}
 use mathlib.Core.Path.{ap, sym, ◌∙◌}
 use Rattle.raw.specs.Raw.{page_told}
 use Rattle.well_formed.proofs.Cases.{page-refused, page-opens}

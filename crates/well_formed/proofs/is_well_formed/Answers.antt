@@ -1,6 +1,5 @@
 -- `well_formed::is_well_formed` meets its contract: the section is refused, or its pages are tested.
 -- Assumes nothing.
-use borrow.Author.Rules.{rules}
 use Rattle.well_formed.proofs.Cases.{parses, parse-refused}
 use Rattle.well_formed.proofs.is_well_formed.Goals as goal
 

@@ -1,6 +1,5 @@
 -- `batch::four::answer_four` meets its contract: the pages' searches end in the list; then by the first page's kind.
 -- Assumes nothing.
-use borrow.Author.Rules.{rules}
 use native.Mathlib.Omega.{arith}
 use Rattle.batch.proofs.Paging.{ends-in}
 use Rattle.batch.proofs.four.answer_four.Goals as goal

@@ -1,8 +1,6 @@
 -- `batch::four::compressed_four` meets its contract: side by side where there are four such pages, else one after another.
 -- Assumes nothing.
-use borrow.Author.Rules.{rules}
-use Rattle.raw.specs.declared.Kind.{Kind}
-use Rattle.batch.proofs.Paging.{ends-in, pages-for, some-there}
+use Rattle.batch.proofs.Paging.{ends-in}
 use Rattle.batch.proofs.four.compressed_four.Goals as goal
 
 pub page_at-a-requires : goal.page_at-a-requires

@@ -1,14 +1,11 @@
 -- `batch::four::in_regular` meets its contract: each answer is put before the next is read.
 -- Assumes nothing.
-use borrow.Author.Rules.{rules}
-use mathlib.Core.Path.{◌≡◌, refl, ap, ◌∙◌}
+use mathlib.Core.Path.{refl, ap, ◌∙◌}
 use native.Mathlib.Omega.{arith}
-use lib.ListN.{length}
 use Rattle.reader.specs.Reader.{slice_told}
 use Rattle.raw.specs.declared.Kind.{Kind}
 use Rattle.entries.specs.Placed.{read_of}
 use Rattle.lookup.specs.Lookup.{lookup_in}
-use Rattle.batch.proofs.Batches.{after-put}
 use Rattle.batch.proofs.Paging.{Fines, fines, four-puts}
 use Rattle.batch.proofs.four.in_regular.Goals as goal
 

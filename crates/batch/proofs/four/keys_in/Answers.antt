@@ -1,6 +1,5 @@
 -- `batch::four::keys_in` meets its contract: each address above its page's base.
 -- Assumes nothing.
-use borrow.Author.Rules.{rules}
 use Rattle.batch.proofs.Paging.{keys-are}
 use Rattle.batch.proofs.four.keys_in.Goals as goal
 

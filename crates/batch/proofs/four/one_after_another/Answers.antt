@@ -1,6 +1,5 @@
 -- `batch::four::one_after_another` meets its contract: four lookups.
 -- Assumes nothing.
-use borrow.Author.Rules.{rules}
 use mathlib.Core.Path.{refl}
 use Rattle.lookup.specs.Lookup.{lookup_in}
 use Rattle.batch.proofs.Paging.{four-puts}

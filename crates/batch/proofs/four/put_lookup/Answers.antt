@@ -1,6 +1,5 @@
 -- `batch::four::put_lookup` meets its contract: the lookup's answer, put.
 -- Assumes nothing.
-use borrow.Author.Rules.{rules}
 use mathlib.Core.Path.{ap, ◌∙◌}
 use native.Mathlib.Omega.{arith}
 use Rattle.lookup.specs.Lookup.{probes_of}

@@ -1,6 +1,5 @@
 -- `batch::four::tell` meets its contract: 12 where the search found none, else the function or its refusal.
 -- Assumes nothing.
-use borrow.Author.Rules.{rules}
 use mathlib.Core.Path.{ap, ◌∙◌}
 use Prim.Native.Nat.{◌+◌, ◌≤◌}
 use native.Mathlib.Omega.{arith}

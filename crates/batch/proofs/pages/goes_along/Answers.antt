@@ -1,6 +1,5 @@
 -- `batch::pages::goes_along` meets its contract: a page without functions doesn't.
 -- Assumes nothing.
-use borrow.Author.Rules.{rules}
 use borrow.Author.Tests.{ltb-true}
 use native.Mathlib.Omega.{arith}
 use Rattle.batch.proofs.pages.goes_along.Goals as goal

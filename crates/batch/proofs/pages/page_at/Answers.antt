@@ -1,6 +1,5 @@
 -- `batch::pages::page_at` meets its contract: the page that the entry names, where there is one.
 -- Assumes nothing.
-use borrow.Author.Rules.{rules}
 use Rattle.batch.proofs.Paging.{none-there, page-there}
 use Rattle.batch.proofs.pages.page_at.Goals as goal
 

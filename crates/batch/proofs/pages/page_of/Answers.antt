@@ -1,6 +1,5 @@
 -- `batch::pages::page_of` meets its contract: by the kind.
 -- Assumes nothing.
-use borrow.Author.Rules.{rules}
 use Rattle.batch.proofs.Paging.{of-kind}
 use Rattle.batch.proofs.pages.page_of.Goals as goal
 

@@ -1,7 +1,6 @@
 -- `brasspurse::frames::brasspurse_rule_arm64` meets its contract: the rule, flat.
 -- Assumes nothing.
 use Rattle.brasspurse.proofs.FlatFrames.{rule-arm64}
-use borrow.Author.Rules.{rules}
 use Rattle.brasspurse.proofs.frames.brasspurse_rule_arm64.Goals as goal
 
 pub returns : goal.returns

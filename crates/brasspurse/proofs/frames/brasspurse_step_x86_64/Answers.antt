@@ -1,7 +1,6 @@
 -- `brasspurse::frames::brasspurse_step_x86_64` meets its contract: the step, flat.
 -- Assumes nothing.
 use Rattle.brasspurse.proofs.FlatFrames.{step-x86}
-use borrow.Author.Rules.{rules}
 use Rattle.brasspurse.proofs.frames.brasspurse_step_x86_64.Goals as goal
 
 pub returns : goal.returns

@@ -1,6 +1,5 @@
 -- `brasspurse::permutations::brasspurse_decode_permutation_6` meets its contract: the decoder's answer, flat.
 -- Assumes nothing.
-use borrow.Author.Rules.{rules}
 use Rattle.brasspurse.proofs.Flattened.{permutation-flat}
 use Rattle.brasspurse.proofs.permutations.brasspurse_decode_permutation_6.Goals as goal
 

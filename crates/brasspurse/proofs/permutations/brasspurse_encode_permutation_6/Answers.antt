@@ -1,6 +1,5 @@
 -- `brasspurse::permutations::brasspurse_encode_permutation_6` meets its contract: the encoder's answer, flat.
 -- Assumes nothing.
-use borrow.Author.Rules.{rules}
 use Rattle.brasspurse.proofs.Flattened.{encoding-flat}
 use Rattle.brasspurse.proofs.permutations.brasspurse_encode_permutation_6.Goals as goal
 

@@ -1,7 +1,6 @@
 -- `brasspurse::reads::brasspurse_read_u32` meets its contract: the answer of `reader::read_u32`, flat.
 -- Assumes nothing.
 use mathlib.Core.Path.{◌∙◌}
-use borrow.Author.Rules.{rules}
 use Rattle.reader.specs.Reader.{told32}
 use Rattle.brasspurse.specs.Flat.{read_answer}
 use Rattle.brasspurse.proofs.Flattened.{known}

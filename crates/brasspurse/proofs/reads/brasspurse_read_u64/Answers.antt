@@ -1,7 +1,6 @@
 -- `brasspurse::reads::brasspurse_read_u64` meets its contract: the answer of `reader::read_u64`, flat.
 -- Assumes nothing.
 use mathlib.Core.Path.{◌∙◌}
-use borrow.Author.Rules.{rules}
 use Rattle.reader.specs.Reader.{told64}
 use Rattle.brasspurse.specs.Flat.{read_answer}
 use Rattle.brasspurse.proofs.Flattened.{known}

@@ -1,6 +1,5 @@
 -- `brasspurse::sections::brasspurse_address_range` meets its contract: what was told, flat.
 -- Assumes nothing.
-use borrow.Author.Rules.{rules}
 use mathlib.Core.Path.{ap, ◌∙◌}
 use Rattle.brasspurse.specs.Sections.{range_answer}
 use Rattle.brasspurse.proofs.sections.brasspurse_address_range.Goals as goal

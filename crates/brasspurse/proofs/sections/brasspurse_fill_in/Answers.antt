@@ -1,6 +1,5 @@
 -- `brasspurse::sections::brasspurse_fill_in` meets its contract: what was told, flat, with the list.
 -- Assumes nothing.
-use borrow.Author.Rules.{rules}
 use Rattle.brasspurse.proofs.Refusals.{filled-flat}
 use Rattle.brasspurse.proofs.sections.brasspurse_fill_in.Goals as goal
 

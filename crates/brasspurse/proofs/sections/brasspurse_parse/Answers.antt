@@ -1,6 +1,5 @@
 -- `brasspurse::sections::brasspurse_parse` meets its contract: the lists, or the refusal's number.
 -- Assumes nothing.
-use borrow.Author.Rules.{rules}
 use Rattle.raw.specs.Raw.{lists_told}
 use Rattle.brasspurse.specs.Sections.{parse_answer}
 use Rattle.brasspurse.proofs.Flattened.{known}

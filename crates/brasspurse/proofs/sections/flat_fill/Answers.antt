@@ -1,6 +1,5 @@
 -- `brasspurse::sections::flat_fill` meets its contract: case by case.
 -- Assumes nothing.
-use borrow.Author.Rules.{rules}
 use mathlib.Core.Path.{ap, sym}
 use Rattle.fill.specs.declared.Stop.{Stop}
 use Rattle.fill.specs.Fill.{why_of}

@@ -1,6 +1,5 @@
 -- `brasspurse::sections::flat_lookup` meets its contract: case by case.
 -- Assumes nothing.
-use borrow.Author.Rules.{rules}
 use mathlib.Core.Path.{ap, sym}
 use native.Mathlib.Omega.{arith}
 use Rattle.lookup.specs.declared.Found.{Found}

@@ -1,6 +1,5 @@
 -- `brasspurse::sections::flat_next` meets its contract: case by case.
 -- Assumes nothing.
-use borrow.Author.Rules.{rules}
 use mathlib.Core.Path.{ap, sym}
 use Rattle.iterate.specs.declared.Next.{Next}
 use Rattle.iterate.specs.Iterate.{next_told}

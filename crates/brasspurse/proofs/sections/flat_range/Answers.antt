@@ -1,6 +1,5 @@
 -- `brasspurse::sections::flat_range` meets its contract: case by case.
 -- Assumes nothing.
-use borrow.Author.Rules.{rules}
 use mathlib.Core.Path.{ap, sym}
 use Rattle.iterate.specs.declared.Ranged.{Ranged}
 use Rattle.iterate.specs.Range.{range_told}

@@ -1,7 +1,6 @@
 -- `brasspurse::unwind::brasspurse_unwind_arm64` meets its contract: the combined call, flat.
 -- Assumes nothing.
 use Rattle.brasspurse.proofs.FlatUnwinds.{unwind-arm64}
-use borrow.Author.Rules.{rules}
 use Rattle.brasspurse.proofs.unwind.brasspurse_unwind_arm64.Goals as goal
 
 pub returns : goal.returns

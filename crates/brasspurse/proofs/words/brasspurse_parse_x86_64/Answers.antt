@@ -2,7 +2,6 @@
 -- Assumes nothing.
 use Prim.Native.Nat.{ℕ}
 use mathlib.Core.Path.{ap, ◌∙◌}
-use borrow.Author.Rules.{rules}
 use Rattle.brasspurse.specs.declared.words.OpcodeX86_64Answer.{OpcodeX86_64Answer}
 use Rattle.brasspurse.specs.Flat.{x86_answer}
 use Rattle.brasspurse.proofs.words.brasspurse_parse_x86_64.Goals as goal

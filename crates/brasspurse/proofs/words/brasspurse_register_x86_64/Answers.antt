@@ -2,7 +2,6 @@
 -- Assumes nothing.
 use Prim.Native.Nat.{ℕ}
 use mathlib.Core.Path.{◌≡◌, ap, sym, ◌∙◌}
-use borrow.Author.Rules.{rules}
 use Rattle.opcodes.specs.Registers.{Told, register, number_of, dwarf_of, named_of, value_of, told}
 use Rattle.opcodes.specs.declared.x86_64.RegisterNameX86_64.{RegisterNameX86_64}
 use Rattle.opcodes.proofs.Fields.{number-told}

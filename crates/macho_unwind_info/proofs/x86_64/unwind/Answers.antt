@@ -1,6 +1,5 @@
 -- `macho_unwind_info::x86_64::unwind` meets its contract: what was looked up, then stepped.
 -- Assumes nothing.
-use borrow.Author.Rules.{rules}
 use Rattle.step.specs.StepsX86.{step_of, regs_told, step_told}
 use Rattle.macho_unwind_info.specs.UnwindX86.{unwind_of}
 use Rattle.macho_unwind_info.proofs.Unwinding.{passed_on, stepped_by}
@@ -20,4 +19,3 @@ returns-in_default c =
     let a = c.args in
     passed_on (λ w. step_of w a.base a.window.now (regs_told a.registers)) (regs_told a.registers) c.lookup-found.result _ c.lookup-found.ensures _ _
     c.in_default.not-Function c.looked_up.ensures c.probes_of.ensures
-

@@ -3,7 +3,6 @@
 use Prim.Native.Nat.{ℕ, ◌*◌, ◌%◌, ◌^◌}
 use mathlib.Core.Path.{ap, sym, ◌∙◌}
 use mathlib.Core.Bool.{cond}
-use borrow.Author.Rules.{rules}
 use native.Mathlib.Nat.{div-one}
 use lib.Dec.{eqb}
 use Rattle.opcodes.specs.Bits.{bits}

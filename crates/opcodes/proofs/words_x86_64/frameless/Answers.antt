@@ -2,7 +2,6 @@
 -- Assumes nothing.
 use Prim.Native.Nat.{ℕ, ◌/◌, ◌%◌}
 use mathlib.Core.Path.{◌≡◌, ap, sym, ◌∙◌}
-use borrow.Author.Rules.{rules}
 use native.Mathlib.Nat.{div-one}
 use Rattle.permutation.specs.Permutation.{decode_of, told}
 use Rattle.opcodes.specs.Bits.{bits}

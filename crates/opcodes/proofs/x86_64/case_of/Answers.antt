@@ -2,7 +2,6 @@
 -- Assumes nothing.
 use Prim.Native.Nat.{ℕ, ◌%◌}
 use mathlib.Core.Path.{◌≡◌, ap, sym, ◌∙◌}
-use borrow.Author.Rules.{rules}
 use borrow.Author.Tests.{ne_eqb}
 use Rattle.opcodes.specs.WordsX86.{unrecognized, parse_of, numbers, numbers_of}
 use Rattle.opcodes.proofs.NumbersX86.{case_of, case-said}

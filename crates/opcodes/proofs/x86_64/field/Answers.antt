@@ -1,7 +1,6 @@
 -- `opcodes::x86_64::field` meets its contract.
 -- Assumes nothing.
 use mathlib.Core.Path.{ap, ◌∙◌}
-use borrow.Author.Rules.{rules}
 use Rattle.opcodes.specs.Registers.{named_of}
 use Rattle.opcodes.proofs.x86_64.field.Goals as goal
 

@@ -4,7 +4,6 @@ use Prim.Native.Nat.{ℕ, ◌*◌, ◌/◌, ◌%◌, ◌<◌}
 use mathlib.Core.Path.{ap, ◌∙◌}
 use native.Mathlib.Omega.{arith}
 use native.Mathlib.Nat.{div-add-mod}
-use borrow.Author.Rules.{rules}
 use Rattle.permutation.specs.Permutation.{registers_of}
 use Rattle.permutation.proofs.Octal.{one_of_three}
 use Rattle.permutation.proofs.table.row.Goals as goal

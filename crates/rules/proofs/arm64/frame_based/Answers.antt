@@ -1,16 +1,14 @@
 -- `rules::arm64::frame_based` meets its contract: each turn places one more pair, or passes it over.
 -- Assumes nothing.
-use Prim.Native.Nat.{ℕ, ◌+◌, ◌-◌, ◌*◌, ◌<◌, ◌≤◌}
+use Prim.Native.Nat.{ℕ, ◌<◌}
 use mathlib.Core.Path.{◌≡◌, refl, ap}
 use mathlib.Core.List.{List}
-use mathlib.Core.Logic.{⊎_elim}
 use native.Mathlib.Omega.{arith}
-use borrow.Author.Rules.{rules}
 use borrow.Kind.Array.{good_length, e_bool}
 use lib.ListN.{length, set, replicate}
 use Rattle.frame.specs.Frame.{register, slot}
 use Rattle.rules.specs.Answers.{numbered, Ruling}
-use Rattle.rules.proofs.Pairing.{Turn, skip, places, end}
+use Rattle.rules.proofs.Pairing.{skip, places, end}
 use Rattle.rules.proofs.arm64.frame_based.Goals as goal
 use Rattle.rules.proofs.arm64.frame_based.Goals.{then-pairs-p, else-pairs-p}
 
@@ -31,9 +29,10 @@ loop-p-preserved c =
     let first : List ℕ = set (set (replicate 20 0) 10 16) 11 8 in (
       omega arith,
       elim c.if-pairs-p.branch [ then-pairs-p w ↦ omega arith | else-pairs-p w ↦ omega arith ],
-      elim c.if-pairs-p.branch
-      [ then-pairs-p w ↦
-          rw (w.below-is, w.next-is, w.pair_place-lower.ensures.0) (places first a.pairs c.loop-p.below c.loop-p.next c.loop-p.p c.loop-p.invariant.2 h w.if-pairs-p.true)
-      | else-pairs-p w ↦
-          rw (w.below-is, w.next-is) (skip first a.pairs c.loop-p.below c.loop-p.next c.loop-p.p c.loop-p.invariant.2 h w.if-pairs-p.false) ],
+      elim c.if-pairs-p.branch [
+        | then-pairs-p w ↦
+            rw (w.below-is, w.next-is, w.pair_place-lower.ensures.0) (places first a.pairs c.loop-p.below c.loop-p.next c.loop-p.p c.loop-p.invariant.2 h w.if-pairs-p.true)
+        | else-pairs-p w ↦
+            rw (w.below-is, w.next-is) (skip first a.pairs c.loop-p.below c.loop-p.next c.loop-p.p c.loop-p.invariant.2 h w.if-pairs-p.false)
+      ],
     )

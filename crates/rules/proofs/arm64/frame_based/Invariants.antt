@@ -1,16 +1,8 @@
 -- `rules::arm64::frame_based` meets its contract: each turn places one more pair, or passes it over.
 -- Assumes nothing.
-use Prim.Native.Nat.{ℕ, ◌+◌, ◌-◌, ◌*◌, ◌<◌, ◌≤◌}
-use mathlib.Core.Path.{◌≡◌, refl, ap}
-use mathlib.Core.List.{List}
-use mathlib.Core.Logic.{⊎_elim}
-use native.Mathlib.Omega.{arith}
-use borrow.Author.Rules.{rules}
-use borrow.Kind.Array.{good_length, e_bool}
-use lib.ListN.{length, set, replicate}
-use Rattle.frame.specs.Frame.{register, slot}
-use Rattle.rules.specs.Answers.{numbered, Ruling}
-use Rattle.rules.proofs.Pairing.{Turn, skip, places, end}
+use Prim.Native.Nat.{◌+◌, ◌-◌, ◌*◌, ◌≤◌}
+use lib.ListN.{set, replicate}
+use Rattle.rules.proofs.Pairing.{Turn}
 use Rattle.rules.proofs.arm64.frame_based.Given as goal
 
 abbrev pub invariant-loop-p : goal.invariant-loop-p

@@ -2,7 +2,6 @@
 -- Assumes nothing.
 use native.Mathlib.Omega.{arith}
 use borrow.Author.Tests.{lt-ltb, le-ltb}
-use borrow.Author.Rules.{rules}
 use Rattle.rules.proofs.arm64.pair_place.Goals as goal
 
 pub returns-then-p-lt5 : goal.returns-then-p-lt5

@@ -1,17 +1,15 @@
 -- `rules::x86_64::frame_based` meets its contract: each turn places one more field, or refuses.
 -- Assumes nothing.
 use mathlib.Core.Path.{◌≡◌, refl, sym, ◌∙◌}
-use Prim.Native.Nat.{ℕ, ◌-◌, ◌<◌, ◌≤◌}
+use Prim.Native.Nat.{ℕ, ◌<◌}
 use mathlib.Core.List.{[], ◌∷◌}
-use mathlib.Core.Logic.{⊎_elim}
 use native.Mathlib.Omega.{arith}
 use native.Mathlib.Numerals.{add-one}
-use borrow.Author.Rules.{rules}
 use lib.ListN.{length, get_or}
 use Rattle.opcodes.specs.Registers.{fields_in, number_at}
 use Rattle.opcodes.proofs.Fields.{at_field}
 use Rattle.rules.proofs.FieldsX86.{loop-is}
-use Rattle.rules.proofs.Fielding.{Turn, skip, places, far, shallow, twice, end}
+use Rattle.rules.proofs.Fielding.{skip, places, far, shallow, twice, end}
 use Rattle.rules.proofs.x86_64.frame_based.Goals as goal
 use Rattle.rules.proofs.x86_64.frame_based.Goals.{else-f-ne0, then-f-ne0+else-f-gt5+else-offset-high+else-below-f-ne0}
 
@@ -46,11 +44,12 @@ loop-k-preserved c =
     let e = (field _ _ c.stored-f.ensures c.loop-k-test.true) in (
       omega arith,
       rw add-one
-          (elim c.if-f-ne0.branch
-      [ then-f-ne0+else-f-gt5+else-offset-high+else-below-f-ne0 w ↦
-          rw (w.below-is, ← e) (places a.offset (0 ∷ 0 ∷ 0 ∷ 0 ∷ 0 ∷ 16 ∷ []) (fields_in a.fields) c.loop-k.below c.loop-k.k c.loop-k.invariant.1 c.loop-k-test.true (λ z. w.if-f-ne0.true (sym e ∙ z)) (rw e w.if-f-gt5.false) (omega (arith, w.if-offset-high.false)) (rw e w.if-below-f-ne0.false))
-      | else-f-ne0 w ↦
-          rw w.below-is (skip a.offset (0 ∷ 0 ∷ 0 ∷ 0 ∷ 0 ∷ 16 ∷ []) (fields_in a.fields) c.loop-k.below c.loop-k.k c.loop-k.invariant.1 c.loop-k-test.true (e ∙ w.if-f-ne0.false)) ]),
+          (elim c.if-f-ne0.branch [
+            | then-f-ne0+else-f-gt5+else-offset-high+else-below-f-ne0 w ↦
+                rw (w.below-is, ← e) (places a.offset (0 ∷ 0 ∷ 0 ∷ 0 ∷ 0 ∷ 16 ∷ []) (fields_in a.fields) c.loop-k.below c.loop-k.k c.loop-k.invariant.1 c.loop-k-test.true (λ z. w.if-f-ne0.true (sym e ∙ z)) (rw e w.if-f-gt5.false) (omega (arith, w.if-offset-high.false)) (rw e w.if-below-f-ne0.false))
+            | else-f-ne0 w ↦
+                rw w.below-is (skip a.offset (0 ∷ 0 ∷ 0 ∷ 0 ∷ 0 ∷ 16 ∷ []) (fields_in a.fields) c.loop-k.below c.loop-k.k c.loop-k.invariant.1 c.loop-k-test.true (e ∙ w.if-f-ne0.false))
+          ]),
     )
 
 pub returns : goal.returns

@@ -7,7 +7,6 @@ use borrow.Kind.Array.{good_length, e_int}
 use lib.ListN.{length, take}
 use lib.Seq.{length-take-le}
 use Rattle.rules.proofs.Pushing.{small, roomy}
-use borrow.Author.Rules.{rules}
 use Rattle.rules.proofs.x86_64.frameless.Goals as goal
 
 pub returns-then-size-count : goal.returns-then-size-count

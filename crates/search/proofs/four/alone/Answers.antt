@@ -1,6 +1,5 @@
 -- `search::four::alone` meets its contract: as the searches of one key do.
 -- Assumes nothing.
-use borrow.Author.Rules.{rules}
 use Rattle.search.proofs.Turns.{sets-out, counted-inside, searched}
 use Rattle.search.proofs.four.alone.Goals as goal
 

@@ -1,6 +1,5 @@
 -- `search::four::alone_all` meets its contract: each search ends as the single one.
 -- Assumes nothing.
-use borrow.Author.Rules.{rules}
 use Rattle.search.proofs.Turns.{each}
 use Rattle.search.proofs.four.alone_all.Goals as goal
 

@@ -1,6 +1,5 @@
 -- `search::four::count_all` meets its contract: each list is counted.
 -- Assumes nothing.
-use borrow.Author.Rules.{rules}
 use Rattle.search.proofs.four.count_all.Goals as goal
 
 pub returns : goal.returns

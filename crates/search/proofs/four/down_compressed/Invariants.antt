@@ -1,11 +1,8 @@
 -- `search::four::down_compressed` meets its contract: each turn is one round of each search.
 -- Assumes nothing.
-use borrow.Author.Rules.{rules}
 use Prim.Native.Nat.{◌-◌, ◌≤◌}
-use native.Mathlib.Omega.{arith}
 use Rattle.search.specs.declared.Layout.{Layout}
 use Rattle.search.specs.Steps.{rests_of, Abreast}
-use Rattle.search.proofs.Turns.{begins, may-go, went, all-gone}
 use Rattle.search.proofs.four.down_compressed.Given as goal
 
 abbrev pub invariant-loop-gone : goal.invariant-loop-gone

@@ -1,10 +1,6 @@
 -- `search::four::down_pages` meets its contract: each turn is one round of each search.
 -- Assumes nothing.
-use borrow.Author.Rules.{rules}
-use Prim.Native.Nat.{◌-◌, ◌≤◌}
 use native.Mathlib.Omega.{arith}
-use Rattle.search.specs.declared.Layout.{Layout}
-use Rattle.search.specs.Steps.{rests_of, Abreast}
 use Rattle.search.proofs.Turns.{begins, may-go, went, all-gone}
 use Rattle.search.proofs.four.down_pages.Goals as goal
 

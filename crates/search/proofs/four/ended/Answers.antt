@@ -1,6 +1,5 @@
 -- `search::four::ended` meets its contract: the last round is made where an entry is left.
 -- Assumes nothing.
-use borrow.Author.Rules.{rules}
 use Rattle.search.proofs.Turns.{counted-inside, nearly, searched}
 use Rattle.search.proofs.four.ended.Goals as goal
 

@@ -1,6 +1,5 @@
 -- `search::four::halve` meets its contract: the round goes up or down by the key that was probed.
 -- Assumes nothing.
-use borrow.Author.Rules.{rules}
 use native.Mathlib.Omega.{arith}
 use mathlib.Core.Path.{refl}
 use Rattle.search.proofs.Turns.{entry-inside, less-inside, lean-round}

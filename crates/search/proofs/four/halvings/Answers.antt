@@ -1,6 +1,5 @@
 -- `search::four::halvings` meets its contract: the number's bits, less one.
 -- Assumes nothing.
-use borrow.Author.Rules.{rules}
 use native.Mathlib.Omega.{arith}
 use Rattle.search.proofs.Turns.{few-zeros, by-zeros}
 use Rattle.search.proofs.four.halvings.Goals as goal

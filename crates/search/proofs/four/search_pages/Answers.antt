@@ -1,6 +1,5 @@
 -- `search::four::search_pages` meets its contract: each search ends as the single one.
 -- Assumes nothing.
-use borrow.Author.Rules.{rules}
 use Rattle.search.specs.Steps.{Alike}
 use Rattle.search.proofs.Turns.{together, all-ended, each}
 use Rattle.search.proofs.four.search_pages.Goals as goal

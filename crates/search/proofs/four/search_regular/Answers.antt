@@ -1,6 +1,5 @@
 -- `search::four::search_regular` meets its contract: side by side or alone, each search ends as the single one.
 -- Assumes nothing.
-use borrow.Author.Rules.{rules}
 use Rattle.search.specs.Steps.{Alike}
 use Rattle.search.proofs.Turns.{alike, all-ended, each}
 use Rattle.search.proofs.four.search_regular.Goals as goal

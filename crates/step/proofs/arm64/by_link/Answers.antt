@@ -10,7 +10,6 @@ use Rattle.rules.specs.Answers.{numbered}
 use Rattle.step.specs.Steps.{Told, regs_of, valueless}
 use Rattle.step.specs.StepsArm64.{regs_told}
 use Rattle.step.proofs.Steps.{above, all_read, restored-none}
-use borrow.Author.Rules.{rules}
 use Rattle.step.proofs.arm64.by_link.Goals as goal
 
 pub returns-in_default : goal.returns-in_default

@@ -1,7 +1,5 @@
 -- `step::arm64::by_slots` meets its contract: the step over slots, with the registers put together again.
 -- Assumes nothing.
-use mathlib.Core.Path.{refl, sym, ◌∙◌}
-use native.Mathlib.Omega.{arith}
 use borrow.Author.Rules.{rules}
 use Rattle.step.proofs.arm64.by_slots.Goals as goal
 

@@ -2,7 +2,6 @@
 -- Assumes nothing.
 use mathlib.Core.Path.{◌∙◌}
 use Rattle.step.proofs.Stepping.{refused-arm64, by_slots, by-link}
-use borrow.Author.Rules.{rules}
 use Rattle.step.proofs.arm64.step.Goals as goal
 
 pub returns-in_default : goal.returns-in_default

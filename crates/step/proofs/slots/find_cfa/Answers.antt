@@ -3,7 +3,6 @@
 use Prim.Native.Nat.{◌+◌}
 use native.Mathlib.Omega.{arith}
 use borrow.Author.Tests.{le-leb, lt-leb}
-use borrow.Author.Rules.{rules}
 use Rattle.step.proofs.slots.find_cfa.Goals as goal
 
 pub returns-then-top-base : goal.returns-then-top-base

@@ -1,19 +1,17 @@
 -- `step::slots::load_all` meets its contract: each turn restores one more register; all slots are inside.
 -- Assumes nothing.
-use Prim.Native.Nat.{ℕ, suc, ◌-◌, ◌<◌, ◌≤◌}
+use Prim.Native.Nat.{ℕ, suc, ◌-◌, ◌<◌}
 use mathlib.Core.List.{List}
 use mathlib.Core.Path.{◌≡◌, sym, ◌∙◌}
 use mathlib.Core.Bool.{Bool, true}
-use mathlib.Core.Logic.{⊎_elim}
 use native.Mathlib.Omega.{arith}
 use native.Mathlib.Numerals.{add-one}
-use borrow.Author.Rules.{rules}
 use lib.ListN.{length, get_or, drop}
 use Rattle.permutation.proofs.Tests.{both_left}
 use Rattle.frame.specs.Memory.{load}
 use Rattle.frame.specs.Frame.{inside, all_inside}
 use Rattle.step.proofs.Spots.{low, room}
-use Rattle.step.proofs.Turns.{Going, one, begin, skip, loads, end}
+use Rattle.step.proofs.Turns.{one, begin, skip, loads, end}
 use Rattle.step.proofs.slots.load_all.Goals as goal
 use Rattle.step.proofs.slots.load_all.Goals.{else-far-ne0, then-far-ne0}
 
@@ -59,11 +57,12 @@ loop-i-preserved c =
     let h = c.loop-i-test.true in (
       omega arith,
       rw add-one
-          (elim c.if-far-ne0.branch
-      [ then-far-ne0 w ↦
-          rw (w.kept-is, w.load_slot.ensures) (loads F f a.below.now a.kept.now c.loop-i.kept c.loop-i.i c.loop-i.invariant.1 h w.if-far-ne0.true (slot-inside (inside a.width a.base (length a.window.now) a.cfa) a.below.now c.loop-i.i c.loop-i-test.true w.if-far-ne0.true (sym c.loop-i.invariant.1.same ∙ c.requires.2)))
-      | else-far-ne0 w ↦
-          rw w.kept-is (skip F f a.below.now a.kept.now c.loop-i.kept c.loop-i.i c.loop-i.invariant.1 h w.if-far-ne0.false) ]),
+          (elim c.if-far-ne0.branch [
+            | then-far-ne0 w ↦
+                rw (w.kept-is, w.load_slot.ensures) (loads F f a.below.now a.kept.now c.loop-i.kept c.loop-i.i c.loop-i.invariant.1 h w.if-far-ne0.true (slot-inside (inside a.width a.base (length a.window.now) a.cfa) a.below.now c.loop-i.i c.loop-i-test.true w.if-far-ne0.true (sym c.loop-i.invariant.1.same ∙ c.requires.2)))
+            | else-far-ne0 w ↦
+                rw w.kept-is (skip F f a.below.now a.kept.now c.loop-i.kept c.loop-i.i c.loop-i.invariant.1 h w.if-far-ne0.false)
+          ]),
     )
 
 pub returns : goal.returns

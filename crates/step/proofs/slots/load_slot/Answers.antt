@@ -1,10 +1,9 @@
 -- `step::slots::load_slot` meets its contract: each turn reads the byte below those read.
 -- Assumes nothing.
-use Prim.Native.Nat.{ℕ, suc, ◌+◌, ◌-◌, ◌^◌, ◌<◌, ◌≤◌}
+use Prim.Native.Nat.{ℕ, suc, ◌+◌, ◌-◌}
 use mathlib.Core.Path.{◌≡◌, ap, ◌∙◌}
 use native.Mathlib.Omega.{arith}
 use native.Mathlib.Nat.{pow-suc, pow-le-pow_right}
-use borrow.Author.Rules.{rules}
 use Rattle.frame.specs.Memory.{load}
 use Rattle.step.proofs.Turns.{load-none, load_byte}
 use Rattle.step.proofs.slots.load_slot.Goals as goal

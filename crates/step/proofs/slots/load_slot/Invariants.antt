@@ -1,12 +1,8 @@
 -- `step::slots::load_slot` meets its contract: each turn reads the byte below those read.
 -- Assumes nothing.
-use Prim.Native.Nat.{ℕ, suc, ◌+◌, ◌-◌, ◌^◌, ◌<◌, ◌≤◌}
-use mathlib.Core.Path.{◌≡◌, ap, ◌∙◌}
-use native.Mathlib.Omega.{arith}
-use native.Mathlib.Nat.{pow-suc, pow-le-pow_right}
-use borrow.Author.Rules.{rules}
+use Prim.Native.Nat.{◌+◌, ◌-◌, ◌^◌, ◌<◌, ◌≤◌}
+use mathlib.Core.Path.{◌≡◌}
 use Rattle.frame.specs.Memory.{load}
-use Rattle.step.proofs.Turns.{load-none, load_byte}
 use Rattle.step.proofs.slots.load_slot.Given as goal
 
 abbrev pub invariant-loop-i : goal.invariant-loop-i

@@ -13,7 +13,6 @@ use Rattle.step.specs.Slots.{landing}
 use Rattle.step.specs.declared.slots.Landed.{Landed}
 use Rattle.step.proofs.Spots.{found, missed, room}
 use Rattle.step.proofs.Steps.{above, no_return, no_slot, all_read}
-use borrow.Author.Rules.{rules}
 use Rattle.step.proofs.slots.step_slots.Goals as goal
 
 pub returns-in_default : goal.returns-in_default

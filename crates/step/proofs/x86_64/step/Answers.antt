@@ -1,7 +1,6 @@
 -- `step::x86_64::step` meets its contract: a step by the rule is the step by the word.
 -- Assumes nothing.
-use mathlib.Core.Path.{refl, sym, ◌∙◌}
-use native.Mathlib.Omega.{arith}
+use mathlib.Core.Path.{◌∙◌}
 use Rattle.step.proofs.Stepping.{refused-x86, stepped-x86}
 use borrow.Author.Rules.{rules}
 use Rattle.step.proofs.x86_64.step.Goals as goal

@@ -1,7 +1,6 @@
 -- `opcodes::arm64::OpcodeArm64::parse` meets its contract: in each arm the case is known.
 -- Assumes nothing.
 use mathlib.Core.Path.{refl, ◌∙◌}
-use borrow.Author.Rules.{rules}
 use Rattle.opcodes.proofs.NumbersArm64.{said, no-case}
 use Rattle.opcodes.proofs.arm64.OpcodeArm64.parse.Goals as goal
 

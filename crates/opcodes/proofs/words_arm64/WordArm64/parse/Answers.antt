@@ -1,7 +1,6 @@
 -- `opcodes::words_arm64::WordArm64::parse` meets its contract: what the word says by its kind.
 -- Assumes nothing.
 use mathlib.Core.Path.{◌≡◌, ap, sym, ◌∙◌}
-use borrow.Author.Rules.{rules}
 use native.Mathlib.Omega.{arith}
 use lib.Bits.{bit_and, and_le_r}
 use lib.Count.{ones-le}

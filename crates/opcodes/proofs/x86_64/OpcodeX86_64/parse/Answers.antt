@@ -1,6 +1,5 @@
 -- `opcodes::x86_64::OpcodeX86_64::parse` meets its contract: the case is that of the word's numbers.
 -- Assumes nothing.
-use borrow.Author.Rules.{rules}
 use Rattle.opcodes.proofs.NumbersX86.{said}
 use Rattle.opcodes.proofs.x86_64.OpcodeX86_64.parse.Goals as goal
 

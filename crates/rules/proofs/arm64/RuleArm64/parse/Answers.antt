@@ -1,7 +1,6 @@
 -- `rules::arm64::RuleArm64::parse` meets its contract: the rule goes by what parsing tells, case by case.
 -- Assumes nothing.
 use mathlib.Core.Path.{◌∙◌}
-use borrow.Author.Rules.{rules}
 use Rattle.rules.proofs.SaysArm64.{rule-said}
 use Rattle.rules.proofs.arm64.RuleArm64.parse.Goals as goal
 

@@ -2,7 +2,6 @@
 -- Assumes nothing.
 use mathlib.Core.Path.{◌∙◌}
 use Rattle.rules.proofs.SaysX86.{rule-said, fit-said}
-use borrow.Author.Rules.{rules}
 use Rattle.rules.proofs.x86_64.RuleX86_64.parse.Goals as goal
 
 pub frame_based-requires : goal.frame_based-requires
