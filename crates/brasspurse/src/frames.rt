@@ -60,8 +60,7 @@ fn register_number(register: CfaRegister) -> u32
     }
 }
 
-#[unsafe(no_mangle)]
-pub extern "C" fn brasspurse_rule_x86_64(opcode: u32) -> RuleX86_64Answer
+pub fn brasspurse_rule_x86_64(opcode: u32) -> RuleX86_64Answer
     ensures { result ≡ rule_x86_answer (rules_x86.rule_of opcode) }
 {
     let rule = RuleX86_64::parse(opcode);
@@ -77,8 +76,7 @@ pub extern "C" fn brasspurse_rule_x86_64(opcode: u32) -> RuleX86_64Answer
     }
 }
 
-#[unsafe(no_mangle)]
-pub extern "C" fn brasspurse_rule_arm64(opcode: u32) -> RuleArm64Answer
+pub fn brasspurse_rule_arm64(opcode: u32) -> RuleArm64Answer
     ensures { result ≡ rule_arm64_answer (rules_arm64.rule_of opcode) }
 {
     let rule = RuleArm64::parse(opcode);
@@ -94,8 +92,7 @@ pub extern "C" fn brasspurse_rule_arm64(opcode: u32) -> RuleArm64Answer
     }
 }
 
-#[unsafe(no_mangle)]
-pub extern "C" fn brasspurse_step_x86_64(
+pub fn brasspurse_step_x86_64(
     opcode: u32,
     registers: RegistersX86_64,
     base: u64,
@@ -113,8 +110,7 @@ pub extern "C" fn brasspurse_step_x86_64(
     }
 }
 
-#[unsafe(no_mangle)]
-pub extern "C" fn brasspurse_step_arm64(
+pub fn brasspurse_step_arm64(
     opcode: u32,
     registers: RegistersArm64,
     base: u64,

@@ -21,8 +21,7 @@ pub struct EncodingAnswer {
     pub encoding: u32,
 }
 
-#[unsafe(no_mangle)]
-pub extern "C" fn brasspurse_decode_permutation_6(count: u32, encoding: u32) -> PermutationAnswer
+pub fn brasspurse_decode_permutation_6(count: u32, encoding: u32) -> PermutationAnswer
     ensures { result ≡ permutation_answer (decode_of count encoding) }
 {
     let permutation = permutation::decode_permutation_6(count, encoding);
@@ -34,8 +33,7 @@ pub extern "C" fn brasspurse_decode_permutation_6(count: u32, encoding: u32) -> 
     }
 }
 
-#[unsafe(no_mangle)]
-pub extern "C" fn brasspurse_encode_permutation_6(count: u32, registers: &[u8; 6]) -> EncodingAnswer
+pub fn brasspurse_encode_permutation_6(count: u32, registers: &[u8; 6]) -> EncodingAnswer
     ensures { result ≡ encoding_answer (encode_of count registers.now) }
 {
     let encoded = permutation::encode_permutation_6(count, *registers);

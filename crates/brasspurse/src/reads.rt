@@ -13,15 +13,13 @@ pub struct ReadAnswer {
     pub value: u64,
 }
 
-#[unsafe(no_mangle)]
-pub extern "C" fn brasspurse_is_granted(section: &[u8], offset: usize, bytes: usize) -> bool
+pub fn brasspurse_is_granted(section: &[u8], offset: usize, bytes: usize) -> bool
     ensures { result ≡ granted_of bytes section.now offset }
 {
     reader::is_granted(section, offset, bytes)
 }
 
-#[unsafe(no_mangle)]
-pub extern "C" fn brasspurse_read_u16(section: &[u8], offset: usize) -> ReadAnswer
+pub fn brasspurse_read_u16(section: &[u8], offset: usize) -> ReadAnswer
     ensures { result ≡ read_answer (read_of 2 section.now offset) }
 {
     let Read16::Value(x) = reader::read_u16(section, offset) else {
@@ -30,8 +28,7 @@ pub extern "C" fn brasspurse_read_u16(section: &[u8], offset: usize) -> ReadAnsw
     granted(x as u64)
 }
 
-#[unsafe(no_mangle)]
-pub extern "C" fn brasspurse_read_u32(section: &[u8], offset: usize) -> ReadAnswer
+pub fn brasspurse_read_u32(section: &[u8], offset: usize) -> ReadAnswer
     ensures { result ≡ read_answer (read_of 4 section.now offset) }
 {
     let Read32::Value(x) = reader::read_u32(section, offset) else {
@@ -40,8 +37,7 @@ pub extern "C" fn brasspurse_read_u32(section: &[u8], offset: usize) -> ReadAnsw
     granted(x as u64)
 }
 
-#[unsafe(no_mangle)]
-pub extern "C" fn brasspurse_read_u64(section: &[u8], offset: usize) -> ReadAnswer
+pub fn brasspurse_read_u64(section: &[u8], offset: usize) -> ReadAnswer
     ensures { result ≡ read_answer (read_of 8 section.now offset) }
 {
     let Read64::Value(x) = reader::read_u64(section, offset) else {

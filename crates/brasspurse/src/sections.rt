@@ -75,8 +75,7 @@ pub struct FillAnswer {
     pub refusal: u16,
 }
 
-#[unsafe(no_mangle)]
-pub extern "C" fn brasspurse_parse(section: &[u8]) -> ParseAnswer
+pub fn brasspurse_parse(section: &[u8]) -> ParseAnswer
     ensures { result ≡ parse_answer (parse_of section.now) }
 {
     match raw::parse(section) {
@@ -114,15 +113,13 @@ fn flat_range(range: Ranged) -> RangeAnswer
     }
 }
 
-#[unsafe(no_mangle)]
-pub extern "C" fn brasspurse_address_range(section: &[u8]) -> RangeAnswer
+pub fn brasspurse_address_range(section: &[u8]) -> RangeAnswer
     ensures { result ≡ range_answer (range_on section.now) }
 {
     flat_range(iterate::address_range(section))
 }
 
-#[unsafe(no_mangle)]
-pub extern "C" fn brasspurse_address_range_in(section: &[u8], lists: Lists) -> RangeAnswer
+pub fn brasspurse_address_range_in(section: &[u8], lists: Lists) -> RangeAnswer
     ensures { result ≡ range_answer (range_in section.now lists) }
 {
     flat_range(iterate::address_range_in(section, lists))
@@ -172,15 +169,13 @@ fn flat_lookup(found: Found) -> LookupAnswer
     }
 }
 
-#[unsafe(no_mangle)]
-pub extern "C" fn brasspurse_lookup(section: &[u8], address: u32) -> LookupAnswer
+pub fn brasspurse_lookup(section: &[u8], address: u32) -> LookupAnswer
     ensures { result ≡ lookup_answer (lookup_on section.now address) }
 {
     flat_lookup(lookup::lookup(section, address))
 }
 
-#[unsafe(no_mangle)]
-pub extern "C" fn brasspurse_lookup_in(section: &[u8], lists: Lists, address: u32) -> LookupAnswer
+pub fn brasspurse_lookup_in(section: &[u8], lists: Lists, address: u32) -> LookupAnswer
     ensures { result ≡ lookup_answer (lookup_in section.now lists address) }
 {
     flat_lookup(lookup::lookup_in(section, lists, address))
@@ -188,12 +183,7 @@ pub extern "C" fn brasspurse_lookup_in(section: &[u8], lists: Lists, address: u3
 
 // Looks up as many of the addresses as there is room for, and says how many. Answer i is the six numbers from 6 * i on: start, end, opcode,
 // page, index, and origin + 256 * probes + 65,536 * outcome + 16,777,216 * refusal, which are the 24 bytes of a LookupAnswer.
-#[unsafe(no_mangle)]
-pub extern "C" fn brasspurse_lookup_batch(
-    section: &[u8],
-    addresses: &[u32],
-    answers: &mut [u32],
-) -> usize
+pub fn brasspurse_lookup_batch(section: &[u8], addresses: &[u32], answers: &mut [u32]) -> usize
     ensures { batch result answers.new ≡ batch_of section.now addresses.now answers.old }
 {
     batch::lookup_batch(section, addresses, answers)
@@ -245,20 +235,13 @@ fn flat_next(next: Next) -> NextAnswer
     }
 }
 
-#[unsafe(no_mangle)]
-pub extern "C" fn brasspurse_next(section: &[u8], page: u32, index: u32) -> NextAnswer
+pub fn brasspurse_next(section: &[u8], page: u32, index: u32) -> NextAnswer
     ensures { result ≡ next_answer (next_on section.now (record { page = page; index = index })) }
 {
     flat_next(iterate::next_function(section, Cursor { page, index }))
 }
 
-#[unsafe(no_mangle)]
-pub extern "C" fn brasspurse_next_in(
-    section: &[u8],
-    lists: Lists,
-    page: u32,
-    index: u32,
-) -> NextAnswer
+pub fn brasspurse_next_in(section: &[u8], lists: Lists, page: u32, index: u32) -> NextAnswer
     ensures { result ≡ next_answer (next_in section.now lists (record { page = page; index = index })) }
 {
     flat_next(iterate::next_function_in(section, lists, Cursor { page, index }))
@@ -296,21 +279,14 @@ fn flat_fill(filled: Filled) -> FillAnswer
     }
 }
 
-#[unsafe(no_mangle)]
-pub extern "C" fn brasspurse_fill(
-    section: &[u8],
-    page: u32,
-    index: u32,
-    out: &mut [u32],
-) -> FillAnswer
+pub fn brasspurse_fill(section: &[u8], page: u32, index: u32, out: &mut [u32]) -> FillAnswer
     ensures { filled_outcome result out.new ≡ fill_answer (fill_on section.now (record { page = page; index = index }) out.old) }
 {
     let filled = fill::fill(section, Cursor { page, index }, out);
     flat_fill(filled)
 }
 
-#[unsafe(no_mangle)]
-pub extern "C" fn brasspurse_fill_in(
+pub fn brasspurse_fill_in(
     section: &[u8],
     lists: Lists,
     page: u32,
@@ -323,8 +299,7 @@ pub extern "C" fn brasspurse_fill_in(
     flat_fill(filled)
 }
 
-#[unsafe(no_mangle)]
-pub extern "C" fn brasspurse_is_well_formed(section: &[u8]) -> bool
+pub fn brasspurse_is_well_formed(section: &[u8]) -> bool
     ensures { result ≡ well_formed section.now }
 {
     well_formed::is_well_formed(section)

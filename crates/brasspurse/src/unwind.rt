@@ -29,8 +29,7 @@ pub struct UnwindArm64Answer {
     pub registers: RegistersArm64,
 }
 
-#[unsafe(no_mangle)]
-pub extern "C" fn brasspurse_unwind_x86_64(
+pub fn brasspurse_unwind_x86_64(
     section: &[u8],
     address: u32,
     registers: RegistersX86_64,
@@ -50,8 +49,7 @@ pub extern "C" fn brasspurse_unwind_x86_64(
     }
 }
 
-#[unsafe(no_mangle)]
-pub extern "C" fn brasspurse_unwind_arm64(
+pub fn brasspurse_unwind_arm64(
     section: &[u8],
     address: u32,
     registers: RegistersArm64,

@@ -32,22 +32,19 @@ pub struct OpcodeX86_64Answer {
     pub popped_regs: [u8; 6],
 }
 
-#[unsafe(no_mangle)]
-pub extern "C" fn brasspurse_opcode_kind(word: u32) -> u8
+pub fn brasspurse_opcode_kind(word: u32) -> u8
     ensures { result ≡ kind_of word }
 {
     OpcodeBitfield::new(word).kind()
 }
 
-#[unsafe(no_mangle)]
-pub extern "C" fn brasspurse_opcode_specific_bits(word: u32) -> u32
+pub fn brasspurse_opcode_specific_bits(word: u32) -> u32
     ensures { result ≡ specific_of word }
 {
     OpcodeBitfield::new(word).specific_bits()
 }
 
-#[unsafe(no_mangle)]
-pub extern "C" fn brasspurse_register_x86_64(n: u8) -> RegisterAnswer
+pub fn brasspurse_register_x86_64(n: u8) -> RegisterAnswer
     ensures { result ≡ register_answer (named_of n) }
 {
     match RegisterNameX86_64::parse(n) {
@@ -69,8 +66,7 @@ pub extern "C" fn brasspurse_register_x86_64(n: u8) -> RegisterAnswer
     }
 }
 
-#[unsafe(no_mangle)]
-pub extern "C" fn brasspurse_parse_x86_64(word: u32) -> OpcodeX86_64Answer
+pub fn brasspurse_parse_x86_64(word: u32) -> OpcodeX86_64Answer
     ensures { result ≡ x86_answer (x86.numbers_of (x86.parse_of word)) }
 {
     let parsed = WordX86_64::parse(word);
@@ -95,8 +91,7 @@ fn states(fields: u16) -> u16
     some + all
 }
 
-#[unsafe(no_mangle)]
-pub extern "C" fn brasspurse_parse_arm64(word: u32) -> WordArm64
+pub fn brasspurse_parse_arm64(word: u32) -> WordArm64
     ensures { result ≡ arm.in_numbers (arm.parse_of word) }
 {
     WordArm64::parse(word)
