@@ -1,5 +1,6 @@
 // The listing of a section (docs/FORMAT.md, 12), block after block: the program `functions` without its input.
 #![tactic(auto)]
+
 ghost use Rattle.std.specs.Prelude.{◌≡◌, ◌+◌, ◌-◌, ◌*◌, ◌/◌, ◌≤◌, min, ◌++◌, length};
 ghost use Rattle.raw.specs.Checked.{good};
 ghost use Rattle.raw.specs.Raw.{parse_of};

@@ -11,6 +11,7 @@
 //
 //   compare/run record-exports crates/replay_exports
 #![tactic(auto)]
+
 use reader::{part, u32_or_0};
 use std::io;
 

@@ -16,6 +16,7 @@
 //
 //   compare/run record-frames crates/replay_frames/stdin
 #![tactic(auto)]
+
 use answers::is_ours;
 use reader::{part, u32_or_0};
 use records::{Tally, read_full, show, show_count, u64_or_0};

@@ -8,6 +8,7 @@
 //
 //   compare/run record-listings crates/replay_listings
 #![tactic(auto)]
+
 use std::io;
 
 fn main(rt: HostRuntime) -> io::Result<()> {

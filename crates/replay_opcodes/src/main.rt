@@ -18,6 +18,7 @@
 //
 // which asks release 0.5.0, and stops if 0.3.0 says something else.
 #![tactic(auto)]
+
 use answers::answer;
 use reader::{part, u32_or_0};
 use records::{Tally, read_full, show};

@@ -19,6 +19,7 @@
 //
 //   compare/run record-sections crates/replay_sections/stdin
 #![tactic(auto)]
+
 use answers::answer;
 use reader::{part, u32_or_0};
 use records::{Tally, read_full, show, show_count};

@@ -1,6 +1,5 @@
 -- `records::count` meets its contract, number by number.
 -- Assumes nothing.
-use Rattle.std.proofs.Common.{rules}
 use Rattle.records.proofs.count.Goals as goal
 
 pub returns : goal.returns

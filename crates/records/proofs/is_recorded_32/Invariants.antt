@@ -1,8 +1,7 @@
 -- `records::is_recorded_32` meets its contract: each turn compares one number more.
 -- Assumes nothing.
-use Rattle.std.proofs.Common.{◌≡◌, ◌-◌, ◌≤◌, length, arith, rules}
+use Rattle.std.proofs.Common.{◌≡◌, ◌-◌, ◌≤◌, length}
 use Rattle.records.specs.Records.{same_of}
-use Rattle.records.proofs.Turns.{one-compared}
 use Rattle.records.proofs.is_recorded_32.Given as goal
 
 abbrev pub invariant-loop-k : goal.invariant-loop-k

@@ -1,6 +1,6 @@
 -- `records::is_recorded_64` meets its contract: each turn compares one number more.
 -- Assumes nothing.
-use Rattle.std.proofs.Common.{◌≡◌, ◌-◌, ◌≤◌, length, arith, rules}
+use Rattle.std.proofs.Common.{◌≡◌, length, arith, rules}
 use Rattle.records.specs.Records.{same_of}
 use Rattle.records.proofs.Turns.{one-compared}
 use Rattle.records.proofs.is_recorded_64.Goals as goal

@@ -1,6 +1,6 @@
 -- `records::load` meets its contract: each turn reads one number more.
 -- Assumes nothing.
-use Rattle.std.proofs.Common.{◌≡◌, ◌-◌, ◌≤◌, length, take, arith, take_all, rules}
+use Rattle.std.proofs.Common.{◌≡◌, length, arith, take_all, rules}
 use Rattle.records.specs.Records.{numbers_of}
 use Rattle.records.proofs.Turns.{one-read}
 use Rattle.records.proofs.load.Goals as goal

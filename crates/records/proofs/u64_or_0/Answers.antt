@@ -1,6 +1,6 @@
 -- `records::u64_or_0` meets its contract: what `read_u64` answered, with 0 for "outside".
 -- Assumes nothing.
-use Rattle.std.proofs.Common.{sym, ap, ◌∙◌, rules}
+use Rattle.std.proofs.Common.{sym, ap, ◌∙◌}
 use Rattle.reader.specs.declared.Read64.{Read64}
 use Rattle.reader.specs.Reader.{word_at, or_zero, told64}
 use Rattle.records.proofs.u64_or_0.Goals as goal

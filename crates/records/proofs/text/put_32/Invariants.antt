@@ -1,6 +1,6 @@
 -- `records::text::put_32` meets its contract: each turn writes one number more.
 -- Assumes nothing.
-use Rattle.std.proofs.Common.{◌-◌, ◌≤◌, length, arith, rules}
+use Rattle.std.proofs.Common.{◌-◌, ◌≤◌, length}
 use Rattle.records.proofs.text.put_32.Given as goal
 
 abbrev pub invariant-loop-k : goal.invariant-loop-k
