@@ -1,8 +1,6 @@
 -- `lister::accept` meets its contract: 30 for an input that is too long, and otherwise as it parses.
 -- Assumes nothing.
-use borrow.Author.Rules.{rules}
 use mathlib.Core.Path.{ap, sym, ◌∙◌}
-use Prim.Native.Nat.{ℕ}
 use native.Mathlib.Omega.{arith}
 use Rattle.raw.specs.Checked.{refused}
 use Rattle.raw.specs.Raw.{lists_told}

@@ -1,14 +1,12 @@
 -- `lister::list` meets its contract: what was written and what is left are the whole listing, and every block leaves less.
 -- Assumes nothing.
-use borrow.Author.Rules.{rules}
 use borrow.Author.Tests.{not-true, not-false}
 use Prim.Native.Nat.{ℕ, ◌≤◌}
-use mathlib.Core.Path.{◌≡◌, ap, ◌∙◌}
+use mathlib.Core.Path.{ap, ◌∙◌}
 use mathlib.Core.List.{List}
 use native.Mathlib.Omega.{arith}
 use lib.ListN.{length}
 use Rattle.lister.specs.declared.Place.{Place}
-use Rattle.lister.specs.Lister.{listing_of}
 use Rattle.lister.specs.Block.{counted}
 use Rattle.lister.proofs.Whole.{text_from, at-the-end, shorter, something, all-from-the-start}
 use Rattle.lister.proofs.list.Goals as goal

@@ -1,6 +1,5 @@
 -- `lister::write_block` meets its contract: by the place, the room, and whether the input is listed.
 -- Assumes nothing.
-use borrow.Author.Rules.{rules}
 use mathlib.Core.Path.{refl, ap, sym, ◌∙◌}
 use native.Mathlib.Omega.{arith}
 use Rattle.lister.specs.Block.{accepted_told}

@@ -1,6 +1,5 @@
 -- `lister::write_functions` meets its contract: the lines are those of the functions that were filled in, and the stop's line is behind them.
 -- Assumes nothing.
-use borrow.Author.Rules.{rules}
 use native.Mathlib.Omega.{arith}
 use Rattle.lister.proofs.Cases.{lines_end, bytes_inside, block_written}
 use Rattle.lister.proofs.write_functions.Goals as goal

@@ -1,6 +1,5 @@
 -- `lister::write_stop` meets its contract: what is written is the stop's line.
 -- Assumes nothing.
-use borrow.Author.Rules.{rules}
 use Rattle.lister.proofs.Cases.{by-stop, by-refusal, nothing_written}
 use Rattle.lister.proofs.write_stop.Goals as goal
 
