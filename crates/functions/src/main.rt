@@ -1,12 +1,13 @@
 // Lists the functions of a section that comes on standard input. A byte more than is listed is read, so that more are refused.
-// Where a read fails, the error says why on standard error, and nothing is listed.
+// Where a read fails, a line on standard error says why, and nothing is listed.
 #![tactic(auto)]
 
-use std::io;
-
-fn main(rt: HostRuntime) -> io::Result<()> {
+fn main(rt: HostRuntime) {
     let mut input = [0u8; 65537];
-    let n = lister::read_full(&mut rt.reader(), &mut input)?;
-    lister::list(&rt, &input[..n]);
-    Ok(())
+    match lister::read_full(&mut rt.reader(), &mut input) {
+        Ok(n) => {
+            lister::list(&rt, &input[..n]);
+        }
+        Err(error) => lister::say(&rt, "standard input", &error),
+    }
 }

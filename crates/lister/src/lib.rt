@@ -13,9 +13,9 @@ use fill::Stop;
 use iterate::Cursor;
 use raw::{Lists, Parsed};
 
-mod input;
+mod streams;
 
-pub use input::read_full;
+pub use streams::{read_full, say};
 
 // Where a listing stands: the cursor of the next call, the functions so far, and whether the end is written.
 #[derive(Clone, Copy)]
@@ -187,8 +187,7 @@ fn hand_on(rt: &(impl Print + Eprint), before: bool, text: &[u8]) -> bool {
     let Err(error) = rt.write_all(text) else {
         return true;
     };
-    // Where this write fails too, nothing is left to say.
-    let _ = eprintln!(rt; "standard output: {error}");
+    say(rt, "standard output", &error);
     false
 }
 
