@@ -18,7 +18,7 @@ use Rattle.raw.proofs.Numbers.{said-15, number-of}
 use Rattle.listing.specs.Listing.{lines_of, refused_of, end_of, Told, written, over, whole_of, lines_in}
 use Rattle.fill.specs.declared.Filled.{Filled}
 use Rattle.fill.specs.declared.Stop.{Stop}
-use Rattle.fill.specs.Fill.{ended, Taken, taken_of, written_over, Outcome as Filling, outcome, fill_in, why_of, filled_told}
+use Rattle.fill.specs.Fill.{Taken, taken_of, written_over, Outcome as Filling, outcome, fill_in, why_of, filled_told}
 use Rattle.fill.proofs.Left.{few, told}
 use Rattle.lister.specs.declared.Place.{Place}
 use Rattle.lister.specs.declared.Accepted.{Accepted}

@@ -1,6 +1,6 @@
 -- Texts of a block: how long they are, and that one written behind the other is both.
 -- Assumes nothing.
-use Prim.Native.Nat.{ℕ, zero, suc, ◌+◌, ◌-◌, ◌*◌, ◌^◌, ◌≤◌, ◌<◌}
+use Prim.Native.Nat.{ℕ, ◌+◌, ◌-◌, ◌*◌, ◌^◌, ◌≤◌, ◌<◌}
 use mathlib.Core.Path.{◌≡◌, refl, ap, sym, ◌∙◌}
 use mathlib.Core.List.{List, [], ◌∷◌, ◌++◌, map, append_assoc, append-nil}
 use native.Mathlib.Omega.{arith}
@@ -8,9 +8,9 @@ use borrow.Author.Tests.{le-leb}
 use borrow.Rule.Slice.PartMut.{mid_of, post_of, put_mid}
 use lib.ListN.{length, take, drop, length-append, length-drop, drop_of_length-le}
 use lib.Seq.{take_all, take_at, drop_at, drop-drop}
-use Rattle.raw.specs.Checked.{Checked, good}
+use Rattle.raw.specs.Checked.{good}
 use Rattle.entries.specs.declared.Function.{Function}
-use Rattle.listing.specs.Listing.{places_of, decimal_of, line_of, lines_of, refused_of, end_of, Told, written, over, whole_of}
+use Rattle.listing.specs.Listing.{places_of, line_of, lines_of, refused_of, end_of, Told, written, over, whole_of}
 use Rattle.listing.proofs.Digits.{length_digits, few}
 use Rattle.listing.proofs.Lines.{length-line}
 use Rattle.listing.proofs.Laws.{at-most-20-places}

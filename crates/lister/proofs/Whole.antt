@@ -1,6 +1,6 @@
 -- Block after block is the whole listing, whatever the room of each call; and it ends.
 -- Assumes nothing.
-use Prim.Native.Nat.{ℕ, zero, suc, ◌+◌, ◌-◌, ◌*◌, ◌/◌, ◌^◌, ◌≤◌, ◌<◌, min, zero-le}
+use Prim.Native.Nat.{ℕ, zero, suc, ◌+◌, ◌*◌, ◌≤◌, ◌<◌, zero-le}
 use mathlib.Core.Path.{◌≡◌, refl, ap, sym, ◌∙◌}
 use mathlib.Core.List.{List, [], ◌∷◌, ◌++◌, map, append_assoc, append-nil}
 use mathlib.Core.Bool.{Bool, true, false, cond}
@@ -17,7 +17,7 @@ use Rattle.raw.proofs.Grants.{parsed, granted}
 use Rattle.entries.specs.declared.Function.{Function}
 use Rattle.iterate.specs.declared.Cursor.{Cursor}
 use Rattle.iterate.specs.Iterate.{cursor, iterated}
-use Rattle.iterate.proofs.Left.{left_of, bounded}
+use Rattle.iterate.proofs.Left.{bounded}
 use Rattle.listing.specs.Listing.{refused_of, end_of}
 use Rattle.fill.specs.Fill.{Why, full, ended, refusal, Taken, taken_of, refusal_in, answers_in}
 use Rattle.fill.proofs.Left.{full_block}
@@ -27,7 +27,7 @@ use Rattle.lister.specs.declared.Block.{Block}
 use Rattle.lister.specs.Lister.{accepted_of, answer_text, answers_text, functions_in, listing_of}
 use Rattle.lister.specs.Block.{place_at, start, Outcome, put, room_in, counted, stop_text, is_end, taken_block, refused_block, block_of, block_told}
 use Rattle.lister.proofs.Cases.{too_long, accepted-parses}
-use Rattle.lister.proofs.Texts.{length-end, some_end, some-refused, length_functions}
+use Rattle.lister.proofs.Texts.{some_end, some-refused, length_functions}
 
 -- what a call wrote
 abbrev pub said : Outcome → List ℕ

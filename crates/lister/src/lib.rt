@@ -1,5 +1,6 @@
 // The listing of a section (docs/FORMAT.md, 12), block after block: the program `functions` without its input.
 #![tactic(auto)]
+
 ghost use Rattle.std.specs.Prelude.{◌≡◌, ◌+◌, ◌-◌, ◌*◌, ◌/◌, ◌≤◌, min, ◌++◌, length};
 ghost use Rattle.raw.specs.Checked.{good};
 ghost use Rattle.raw.specs.Raw.{parse_of};
@@ -10,8 +11,11 @@ ghost use Rattle.lister.specs.Block.{start, room_in, counted, stop_text, is_end,
 
 use fill::Stop;
 use iterate::Cursor;
-use libc::STDOUT_FILENO;
 use raw::{Lists, Parsed};
+
+mod streams;
+
+pub use streams::{read_full, say};
 
 // Where a listing stands: the cursor of the next call, the functions so far, and whether the end is written.
 #[derive(Clone, Copy)]
@@ -176,20 +180,20 @@ pub fn write_block(s: &[u8], at: Place, out: &mut [u8]) -> Block
 
 // Hands a block on to standard output, unless one before it failed; answers whether none has. At the first failure a line on
 // standard error says why.
-fn hand_on(before: bool, text: &[u8]) -> bool {
+fn hand_on(rt: &(impl Print + Eprint), before: bool, text: &[u8]) -> bool {
     if !before {
         return false;
     }
-    let now = io::write_all(STDOUT_FILENO, text);
-    if !now {
-        os::fail(b"standard output");
-    }
-    now
+    let Err(error) = rt.write_all(text) else {
+        return true;
+    };
+    say(rt, "standard output", &error);
+    false
 }
 
 // Writes the listing of a section to standard output, block after block, as long as no write fails. Answers how many bytes the listing
 // has, as far as 64 bits count.
-pub fn list(s: &[u8]) -> u64
+pub fn list(rt: &(impl Print + Eprint), s: &[u8]) -> u64
     ensures { result ≡ counted 0 (length (listing_of s.now)) }
 {
     let mut text = room_for_text();
@@ -199,7 +203,7 @@ pub fn list(s: &[u8]) -> u64
     while !at.ended {
         let block = write_block(s, at, &mut text);
         let n = block.written;
-        whole = hand_on(whole, reader::part(&text, 0, n));
+        whole = hand_on(rt, whole, reader::part(&text, 0, n));
         total = count(total, n);
         at = block.next;
     }

@@ -1,6 +1,7 @@
 // What the replays share: numbers of a record, whether an answer is the recorded one, how many are not, and what a replay writes. What is missing
 // of a record is 0.
 #![tactic(auto)]
+
 ghost use Rattle.std.specs.Prelude.{◌≡◌, ◌&&◌, length, if◌then◌else◌};
 ghost use Rattle.reader.specs.Reader.{word_at};
 ghost use Rattle.records.specs.Records.{numbers_of, same_of, counted_of};
@@ -8,8 +9,10 @@ ghost use Rattle.records.specs.Records.{numbers_of, same_of, counted_of};
 use reader::Read64;
 use std::num::wrapping_add_u64;
 
+mod input;
 mod text;
 
+pub use input::read_full;
 pub use text::{put_16, put_32, put_64, show, show_count};
 
 #[derive(Clone, Copy)]

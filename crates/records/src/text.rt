@@ -1,74 +1,68 @@
-// What is written to standard output: lines of counts, and hexadecimal numbers with a space before each.
-ghost use Rattle.std.specs.Prelude.{◌≡◌, length};
+// What is written to standard output: lines of counts, and hexadecimal numbers with a space before each. An error says that a write failed.
+ghost use Rattle.std.specs.Prelude.{◌≡◌, length, IfOk};
 
 use crate::Tally;
-use libc::STDOUT_FILENO;
+use std::io;
 
 // Answers how many records it told of.
-pub fn show(name: &[u8], t: Tally) -> u64
-    ensures { result ≡ t.compared }
+pub fn show(rt: &impl Print, name: &[u8], t: Tally) -> io::Result<u64>
+    ensures { IfOk result (λ told. told ≡ t.compared) }
 {
-    write(name);
-    show_number(b": ", t.compared);
-    show_number(b" compared, ", t.differed);
-    write(b" differed\n");
-    t.compared
+    rt.write_all(name)?;
+    show_number(rt, ": ", t.compared)?;
+    show_number(rt, " compared, ", t.differed)?;
+    println!(rt; " differed")?;
+    Ok(t.compared)
 }
 
 // For records with nothing to compare.
-pub fn show_count(name: &[u8], t: Tally) -> u64
-    ensures { result ≡ t.compared }
+pub fn show_count(rt: &impl Print, name: &[u8], t: Tally) -> io::Result<u64>
+    ensures { IfOk result (λ told. told ≡ t.compared) }
 {
-    write(name);
-    show_number(b": ", t.compared);
-    write(b"\n");
-    t.compared
+    rt.write_all(name)?;
+    show_number(rt, ": ", t.compared)?;
+    println!(rt)?;
+    Ok(t.compared)
 }
 
-fn show_number(before: &[u8], n: u64) {
-    write(before);
-    io::print_decimal(STDOUT_FILENO, n);
-}
-
-fn write(text: &[u8]) {
-    io::write_all(STDOUT_FILENO, text);
+fn show_number(rt: &impl Print, before: &str, n: u64) -> io::Result<()> {
+    print!(rt; "{before}{n}")
 }
 
 // Each answers how many numbers there were.
-pub fn put_16(numbers: &[u16]) -> usize
-    ensures { result ≡ length numbers.now }
+pub fn put_16(rt: &impl Print, numbers: &[u16]) -> io::Result<usize>
+    ensures { IfOk result (λ count. count ≡ length numbers.now) }
 {
     let mut k = 0;
     while k < numbers.len() {
-        put_number(numbers[k] as u64);
+        put_number(rt, u64::from(numbers[k]))?;
         k += 1;
     }
-    k
+    Ok(k)
 }
 
-pub fn put_32(numbers: &[u32]) -> usize
-    ensures { result ≡ length numbers.now }
+pub fn put_32(rt: &impl Print, numbers: &[u32]) -> io::Result<usize>
+    ensures { IfOk result (λ count. count ≡ length numbers.now) }
 {
     let mut k = 0;
     while k < numbers.len() {
-        put_number(numbers[k] as u64);
+        put_number(rt, u64::from(numbers[k]))?;
         k += 1;
     }
-    k
+    Ok(k)
 }
 
-pub fn put_64(numbers: &[u64]) -> usize
-    ensures { result ≡ length numbers.now }
+pub fn put_64(rt: &impl Print, numbers: &[u64]) -> io::Result<usize>
+    ensures { IfOk result (λ count. count ≡ length numbers.now) }
 {
     let mut k = 0;
     while k < numbers.len() {
-        put_number(numbers[k]);
+        put_number(rt, numbers[k])?;
         k += 1;
     }
-    k
+    Ok(k)
 }
 
-fn put_number(n: u64) {
-    write(b" ");
-    io::print_hex(STDOUT_FILENO, n, 1);
+fn put_number(rt: &impl Print, n: u64) -> io::Result<()> {
+    print!(rt; " {n:x}")
 }

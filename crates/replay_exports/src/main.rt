@@ -11,44 +11,46 @@
 //
 //   compare/run record-exports crates/replay_exports
 #![tactic(auto)]
-use libc::{STDIN_FILENO, STDOUT_FILENO};
+
 use reader::{part, u32_or_0};
+use std::io;
 
 mod frames;
 mod reads;
 mod sections;
 mod words;
 
-fn main() {
+fn main(rt: HostRuntime) -> io::Result<()> {
     let mut buffer = [0u8; 65536];
-    let n = io::read_full(STDIN_FILENO, &mut buffer);
-    replay(&buffer[..n]);
+    let n = records::read_full(&mut rt.reader(), &mut buffer)?;
+    replay(&rt, &buffer[..n])
 }
 
-fn replay(s: &[u8]) {
+fn replay(rt: &impl Print, s: &[u8]) -> io::Result<()> {
     let mut at = u32_or_0(s, 0) as usize;
     while at < s.len() {
         let n = u32_or_0(s, at + 12) as usize;
-        answer(s, part(s, at, 36), part(s, at + 36, n));
+        answer(rt, s, part(s, at, 36), part(s, at + 36, n))?;
         at += 36 + n;
     }
+    Ok(())
 }
 
-fn answer(s: &[u8], head: &[u8], asked: &[u8]) {
-    io::write_all(STDOUT_FILENO, part(head, 16, 20));
-    call(u32_or_0(head, 0), section(s, head), asked);
-    io::write_all(STDOUT_FILENO, b"\n");
+fn answer(rt: &impl Print, s: &[u8], head: &[u8], asked: &[u8]) -> io::Result<()> {
+    rt.write_all(part(head, 16, 20))?;
+    call(rt, u32_or_0(head, 0), section(s, head), asked)?;
+    println!(rt)
 }
 
 fn section<'a>(s: &'a [u8], head: &[u8]) -> &'a [u8] {
     part(s, u32_or_0(head, 4) as usize, u32_or_0(head, 8) as usize)
 }
 
-fn call(tag: u32, section: &[u8], asked: &[u8]) {
+fn call(rt: &impl Print, tag: u32, section: &[u8], asked: &[u8]) -> io::Result<()> {
     match tag {
-        1..=4 => reads::answer(tag, section, asked),
-        5..=8 | 19 => words::answer(tag, asked),
-        9..=12 => frames::answer(tag, section, asked),
-        _ => sections::answer(tag, section, asked),
+        1..=4 => reads::answer(rt, tag, section, asked),
+        5..=8 | 19 => words::answer(rt, tag, asked),
+        9..=12 => frames::answer(rt, tag, section, asked),
+        _ => sections::answer(rt, tag, section, asked),
     }
 }

@@ -4,25 +4,28 @@ use brasspurse::reads::{
     brasspurse_read_u64,
 };
 use records::{put_32, put_64, u64_or_0};
+use std::io;
 
-pub fn answer(tag: u32, section: &[u8], asked: &[u8]) {
+pub fn answer(rt: &impl Print, tag: u32, section: &[u8], asked: &[u8]) -> io::Result<()> {
     let offset = u64_or_0(asked, 0) as usize;
     match tag {
-        1 => is_granted(section, offset, u64_or_0(asked, 8) as usize),
-        2 => put_read(brasspurse_read_u16(section, offset)),
-        3 => put_read(brasspurse_read_u32(section, offset)),
-        _ => put_read(brasspurse_read_u64(section, offset)),
+        1 => is_granted(rt, section, offset, u64_or_0(asked, 8) as usize),
+        2 => put_read(rt, brasspurse_read_u16(section, offset)),
+        3 => put_read(rt, brasspurse_read_u32(section, offset)),
+        _ => put_read(rt, brasspurse_read_u64(section, offset)),
     }
 }
 
-fn is_granted(section: &[u8], offset: usize, bytes: usize) {
+fn is_granted(rt: &impl Print, section: &[u8], offset: usize, bytes: usize) -> io::Result<()> {
     if brasspurse_is_granted(section, offset, bytes) {
-        put_32(&[1]);
+        put_32(rt, &[1])?;
     } else {
-        put_32(&[0]);
+        put_32(rt, &[0])?;
     }
+    Ok(())
 }
 
-fn put_read(answer: ReadAnswer) {
-    put_64(&[answer.granted as u64, answer.value]);
+fn put_read(rt: &impl Print, answer: ReadAnswer) -> io::Result<()> {
+    put_64(rt, &[answer.granted as u64, answer.value])?;
+    Ok(())
 }

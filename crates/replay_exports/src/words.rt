@@ -6,52 +6,60 @@ use brasspurse::words::{
     brasspurse_parse_x86_64, brasspurse_register_x86_64,
 };
 use records::put_32;
+use std::io;
 
-pub fn answer(tag: u32, asked: &[u8]) {
+pub fn answer(rt: &impl Print, tag: u32, asked: &[u8]) -> io::Result<()> {
     let word = reader::u32_or_0(asked, 0);
     match tag {
-        5 => encode(word, asked),
-        6 => put_one(brasspurse_opcode_kind(word) as u32),
-        7 => put_one(brasspurse_opcode_specific_bits(word)),
-        8 => put_register(brasspurse_register_x86_64(byte(asked, 0))),
-        _ => put_word(brasspurse_parse_x86_64(word)),
+        5 => encode(rt, word, asked),
+        6 => put_one(rt, brasspurse_opcode_kind(word) as u32),
+        7 => put_one(rt, brasspurse_opcode_specific_bits(word)),
+        8 => put_register(rt, brasspurse_register_x86_64(byte(asked, 0))),
+        _ => put_word(rt, brasspurse_parse_x86_64(word)),
     }
 }
 
-fn put_one(n: u32) {
-    put_32(&[n]);
+fn put_one(rt: &impl Print, n: u32) -> io::Result<()> {
+    put_32(rt, &[n])?;
+    Ok(())
 }
 
-fn put_register(answer: RegisterAnswer) {
-    put_32(&[answer.state, answer.number, answer.dwarf_number]);
+fn put_register(rt: &impl Print, answer: RegisterAnswer) -> io::Result<()> {
+    put_32(rt, &[answer.state, answer.number, answer.dwarf_number])?;
+    Ok(())
 }
 
-fn put_word(answer: OpcodeX86_64Answer) {
+fn put_word(rt: &impl Print, answer: OpcodeX86_64Answer) -> io::Result<()> {
     let popped = answer.popped_regs;
     let low = reader::u32_or_0(&popped, 0);
     let high = reader::u16_or_0(&popped, 4) as u32;
-    put_32(&[
-        answer.value,
-        answer.answer as u32,
-        answer.stack_adjust_in_bytes as u32,
-        answer.fields as u32,
-        answer.field_states as u32,
-        low % 256,
-        low / 256 % 256,
-        low / 0x1_0000 % 256,
-        low / 0x100_0000,
-        high % 256,
-        high / 256,
-    ]);
+    put_32(
+        rt,
+        &[
+            answer.value,
+            answer.answer as u32,
+            answer.stack_adjust_in_bytes as u32,
+            answer.fields as u32,
+            answer.field_states as u32,
+            low % 256,
+            low / 256 % 256,
+            low / 0x1_0000 % 256,
+            low / 0x100_0000,
+            high % 256,
+            high / 256,
+        ],
+    )?;
+    Ok(())
 }
 
-fn encode(count: u32, asked: &[u8]) {
+fn encode(rt: &impl Print, count: u32, asked: &[u8]) -> io::Result<()> {
     let registers = six(asked);
-    put_encoding(brasspurse_encode_permutation_6(count, &registers));
+    put_encoding(rt, brasspurse_encode_permutation_6(count, &registers))
 }
 
-fn put_encoding(answer: EncodingAnswer) {
-    put_32(&[answer.refusal, answer.encoding]);
+fn put_encoding(rt: &impl Print, answer: EncodingAnswer) -> io::Result<()> {
+    put_32(rt, &[answer.refusal, answer.encoding])?;
+    Ok(())
 }
 
 fn six(asked: &[u8]) -> [u8; 6] {

@@ -16,27 +16,29 @@
 //
 //   compare/run record-frames crates/replay_frames/stdin
 #![tactic(auto)]
+
 use answers::is_ours;
-use libc::STDIN_FILENO;
 use reader::{part, u32_or_0};
-use records::{Tally, show, show_count, u64_or_0};
+use records::{Tally, read_full, show, show_count, u64_or_0};
+use std::io;
 
 mod answers;
 
 const OTHER: u64 = 103;
 
-fn main() {
+fn main(rt: HostRuntime) -> io::Result<()> {
     let mut buffer = [0u8; 131072];
-    let n = io::read_full(STDIN_FILENO, &mut buffer);
-    report(&buffer[..n]);
+    let n = read_full(&mut rt.reader(), &mut buffer)?;
+    report(&rt, &buffer[..n])
 }
 
-fn report(s: &[u8]) {
-    show(b"x86_64", replay(s, 1));
-    show(b"arm64", replay(s, 2));
-    show(b"x86_64, controls", replay(s, 101));
-    show(b"arm64, controls", replay(s, 102));
-    show_count(b"other", replay(s, OTHER));
+fn report(rt: &impl Print, s: &[u8]) -> io::Result<()> {
+    show(rt, b"x86_64", replay(s, 1))?;
+    show(rt, b"arm64", replay(s, 2))?;
+    show(rt, b"x86_64, controls", replay(s, 101))?;
+    show(rt, b"arm64, controls", replay(s, 102))?;
+    show_count(rt, b"other", replay(s, OTHER))?;
+    Ok(())
 }
 
 // The records of a kind.

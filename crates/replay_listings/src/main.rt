@@ -8,19 +8,21 @@
 //
 //   compare/run record-listings crates/replay_listings
 #![tactic(auto)]
-use libc::STDIN_FILENO;
 
-fn main() {
+use std::io;
+
+fn main(rt: HostRuntime) -> io::Result<()> {
     let mut buffer = [0u8; 262144];
-    let n = io::read_full(STDIN_FILENO, &mut buffer);
-    replay(&buffer[..n]);
+    let n = lister::read_full(&mut rt.reader(), &mut buffer)?;
+    replay(&rt, &buffer[..n]);
+    Ok(())
 }
 
-fn replay(s: &[u8]) {
+fn replay(rt: &(impl Print + Eprint), s: &[u8]) {
     let mut at: usize = 0;
     while at < s.len() {
         let n = reader::u32_or_0(s, at) as usize;
-        lister::list(reader::part(s, at + 4, n));
+        lister::list(rt, reader::part(s, at + 4, n));
         at += 4 + n;
     }
 }

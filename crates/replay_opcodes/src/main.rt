@@ -18,26 +18,28 @@
 //
 // which asks release 0.5.0, and stops if 0.3.0 says something else.
 #![tactic(auto)]
+
 use answers::answer;
-use libc::STDIN_FILENO;
 use reader::{part, u32_or_0};
-use records::{Tally, show};
+use records::{Tally, read_full, show};
+use std::io;
 
 mod answers;
 
-fn main() {
+fn main(rt: HostRuntime) -> io::Result<()> {
     let mut buffer = [0u8; 524288];
-    let n = io::read_full(STDIN_FILENO, &mut buffer);
-    report(&buffer[..n]);
+    let n = read_full(&mut rt.reader(), &mut buffer)?;
+    report(&rt, &buffer[..n])
 }
 
-fn report(s: &[u8]) {
-    show(b"permutations", replay(s, 1));
-    show(b"x86_64 words", replay(s, 2));
-    show(b"arm64 words", replay(s, 3));
-    show(b"permutations, controls", replay(s, 101));
-    show(b"x86_64 words, controls", replay(s, 102));
-    show(b"arm64 words, controls", replay(s, 103));
+fn report(rt: &impl Print, s: &[u8]) -> io::Result<()> {
+    show(rt, b"permutations", replay(s, 1))?;
+    show(rt, b"x86_64 words", replay(s, 2))?;
+    show(rt, b"arm64 words", replay(s, 3))?;
+    show(rt, b"permutations, controls", replay(s, 101))?;
+    show(rt, b"x86_64 words, controls", replay(s, 102))?;
+    show(rt, b"arm64 words, controls", replay(s, 103))?;
+    Ok(())
 }
 
 // The records that have the tag.

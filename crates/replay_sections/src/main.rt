@@ -19,10 +19,11 @@
 //
 //   compare/run record-sections crates/replay_sections/stdin
 #![tactic(auto)]
+
 use answers::answer;
-use libc::STDIN_FILENO;
 use reader::{part, u32_or_0};
-use records::{Tally, show, show_count};
+use records::{Tally, read_full, show, show_count};
+use std::io;
 
 mod answers;
 
@@ -35,25 +36,26 @@ struct Place {
     n: usize,
 }
 
-fn main() {
+fn main(rt: HostRuntime) -> io::Result<()> {
     let mut buffer = [0u8; 65536];
-    let n = io::read_full(STDIN_FILENO, &mut buffer);
-    report(&buffer[..n]);
+    let n = read_full(&mut rt.reader(), &mut buffer)?;
+    report(&rt, &buffer[..n])
 }
 
-fn report(s: &[u8]) {
-    show(b"lookups", replay(s, 1));
-    show(b"nexts", replay(s, 2));
-    show(b"parses", replay(s, 3));
-    show(b"ranges", replay(s, 4));
-    show(b"well formed", replay(s, 5));
-    show(b"lookups, controls", replay(s, 101));
-    show(b"nexts, controls", replay(s, 102));
-    show(b"parses, controls", replay(s, 103));
-    show(b"ranges, controls", replay(s, 104));
-    show(b"well formed, controls", replay(s, 105));
-    show_count(b"sections", replay(s, 0));
-    show_count(b"other", replay(s, OTHER));
+fn report(rt: &impl Print, s: &[u8]) -> io::Result<()> {
+    show(rt, b"lookups", replay(s, 1))?;
+    show(rt, b"nexts", replay(s, 2))?;
+    show(rt, b"parses", replay(s, 3))?;
+    show(rt, b"ranges", replay(s, 4))?;
+    show(rt, b"well formed", replay(s, 5))?;
+    show(rt, b"lookups, controls", replay(s, 101))?;
+    show(rt, b"nexts, controls", replay(s, 102))?;
+    show(rt, b"parses, controls", replay(s, 103))?;
+    show(rt, b"ranges, controls", replay(s, 104))?;
+    show(rt, b"well formed, controls", replay(s, 105))?;
+    show_count(rt, b"sections", replay(s, 0))?;
+    show_count(rt, b"other", replay(s, OTHER))?;
+    Ok(())
 }
 
 // The records of a kind.
