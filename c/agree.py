@@ -232,7 +232,14 @@ class Source:
 
     def use(self):
         t = self.tokens
-        path = self.path_of(t.word())
+        path = [t.word()]
+        while t.try_take("::"):
+            if t.try_take("{"):
+                for name in t.separated("}", t.word):
+                    self.uses[name] = path + [name]
+                t.expect(";")
+                return
+            path.append(t.word())
         t.expect(";")
         self.uses[path[-1]] = path
 
@@ -252,8 +259,8 @@ class Source:
     def function(self, attributes):
         t = self.tokens
         name = t.word()
-        if "no_mangle" not in attributes or "pub" not in attributes:
-            t.fail(f"{name} is not `pub` with #[no_mangle]")
+        if "unsafe(no_mangle)" not in attributes or "pub" not in attributes:
+            t.fail(f"{name} is not `pub` with #[unsafe(no_mangle)]")
         t.expect("(")
         parameters = t.separated(")", self.declared)
         returned = self.type() if t.try_take("->") else "()"
@@ -285,17 +292,17 @@ class Source:
 
 
 class Library:
-    """The functions of crates/brasspurse and the structs that they hand on, told as in C."""
+    """The functions of crates/brasspurse_c and the structs that they hand on, told as in C."""
 
     def __init__(self, crates):
         self.crates = crates
         self.files = {}
         self.functions, self.structs, self.defined = {}, {}, {}
-        for path in sorted((crates / "brasspurse/src").rglob("*.rt")):
+        for path in sorted((crates / "brasspurse_c/src").rglob("*.rt")):
             source = self.file(path)
             for name, (returned, parameters) in source.functions.items():
                 if name in self.functions:
-                    sys.exit(f"{name} is in crates/brasspurse twice")
+                    sys.exit(f"{name} is in crates/brasspurse_c twice")
                 told = [p for parameter in parameters for p in self.told(source, *parameter)]
                 back = "void" if returned == "()" else self.plain(source, returned)
                 self.functions[name] = (back, told)

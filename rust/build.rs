@@ -1,4 +1,4 @@
-//! Links `libbrasspurse.a`, made by `scripts/archive`, which calls `rt staticlib brasspurse`.
+//! Links `libbrasspurse.a`, made by `scripts/archive`, which calls `rt lib` in `crates/brasspurse_c`.
 //!
 //! `BRASSPURSE_LIB_DIR` names its folder, if it isn't `../target/staticlib` beside the manifest's.
 //! The path has to be absolute: cargo runs this in the manifest's folder, so that a relative one

@@ -32,7 +32,8 @@ sources() {
     {
         rt version
         cd "$root" || exit
-        find crates.txt crates -type f \( -name crates.txt -o -path '*/src/*' -o -path '*/specs/*' -o -path '*/proofs/*' \) -print0 |
+        find crates.txt crates -name out -prune -o -type f \
+            \( -name crates.txt -o -path '*/src/*' -o -path '*/specs/*' -o -path '*/proofs/*' \) -print0 |
             LC_ALL=C sort -z | xargs -0 sha256sum
     } | sum
 }
@@ -58,7 +59,7 @@ proved() {
 }
 
 # The Rattle kit's folder.
-kit() { (cd "$(dirname "$(rt doc)")/.." && pwd); }
+kit() { (cd "$(dirname "$(rt doc)")" && pwd); }
 
 needs_kit() { has rt || die "the Rattle kit is needed: its command rt is not on PATH$*"; }
 
@@ -77,10 +78,9 @@ program() {
     fi
 }
 
-# rt goes by its stamp alone, and would not see that the program is gone.
+# `rt run` proves and makes the program, and runs it, here on nothing.
 check_functions() {
-    rm -f target/stamp/functions
-    rt check functions
+    (cd crates/functions && rt run </dev/null) && mkdir -p target/bin && cp crates/functions/out/functions target/bin/functions
 }
 
 # Sets `emulator` to what runs x86-64 code here: nothing on x86-64; elsewhere the kit's emulator, another one, or Debian's.

@@ -45,7 +45,7 @@
 //!
 //! # Building
 //!
-//! The library is made by `scripts/archive`, which calls `rt staticlib brasspurse`, in
+//! The library is made by `scripts/archive`, by `rt lib` in `crates/brasspurse_c`, in
 //! `target/staticlib`, where the build looks for it. `BRASSPURSE_LIB_DIR` names another folder, by an
 //! absolute path. It is x86-64 code for Linux, and the build says so and stops for any other target.
 //! On another machine build with `--target x86_64-unknown-linux-gnu` and a linker for it, and run
