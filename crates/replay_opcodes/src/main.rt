@@ -19,6 +19,8 @@
 // which asks release 0.5.0, and stops if 0.3.0 says something else.
 #![tactic(auto)]
 
+ghost use Rattle.std.specs.Prelude.{◌≡◌, length};
+
 use answers::answer;
 use reader::{part, u32_or_0};
 use records::{Tally, read_full, show};
@@ -26,8 +28,15 @@ use std::io;
 
 mod answers;
 
+// Room for the input; only its length matters.
+fn room_for_input() -> [u8; 524288]
+    ensures { 524288 ≡ length result }
+{
+    [0u8; 524288]
+}
+
 fn main(rt: HostRuntime) -> io::Result<()> {
-    let mut buffer = [0u8; 524288];
+    let mut buffer = room_for_input();
     let n = read_full(&mut rt.reader(), &mut buffer)?;
     report(&rt, &buffer[..n])
 }
