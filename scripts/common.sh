@@ -135,6 +135,12 @@ unpacked() {
     case $1 in *:amd64*) apt+=(-o APT::Architectures::="$(dpkg --print-architecture)" -o APT::Architectures::=amd64) ;; esac
     "${apt[@]}" update </dev/null >&2 || say "apt-get update failed; going on with the lists that are there"
     (cd "$unpacked" && "${apt[@]}" download "$1" && dpkg-deb -x ./*.deb .) </dev/null >&2 || die "Debian's package $1 was not fetched: see above"
+    # `rt ci` takes no links in a checkout: each becomes a copy of what it names, or goes where that isn't there.
+    find "$unpacked" -type l -print0 | while IFS= read -r -d '' link; do
+        to=$(realpath -e "$link" 2>/dev/null) || to=
+        rm "$link"
+        [ -z "$to" ] || cp -r "$to" "$link"
+    done
     touch "$unpacked/whole"
 }
 
