@@ -139,7 +139,7 @@ unpacked() {
     find "$unpacked" -type l -print0 | while IFS= read -r -d '' link; do
         to=$(realpath -e "$link" 2>/dev/null) || to=
         rm "$link"
-        [ -z "$to" ] || cp -r "$to" "$link"
+        [ -z "$to" ] || cp -rL "$to" "$link" 2>/dev/null || rm -rf "$link"
     done
     touch "$unpacked/whole"
 }

@@ -77,7 +77,7 @@ impl<'a> UnwindInfo<'a> {
     }
 }
 
-// From plain parameters to the view and back: whoever calls this one needs no proof by hand.
+// From plain parameters to the view and back.
 pub fn lookup_in(section: &[u8], lists: Lists, pc: u32) -> Found
     ensures { looked_told result ≡ lookup_in section.now lists pc }
 {

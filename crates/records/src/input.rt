@@ -4,7 +4,8 @@ ghost use Rattle.std.specs.Prelude.{◌≤◌, length, IfOk};
 use std::io;
 use std::io::Read;
 
-// Reads until the buffer is full or the input ends, and answers how many bytes stand at the buffer's front. An error says that a read failed.
+// Reads until the buffer is full or the input ends, and answers how many bytes stand at the buffer's front. An error says that a read failed:
+// what came before it may then stand at the front. No other error comes.
 pub fn read_full(input: &mut impl Read, buffer: &mut [u8]) -> io::Result<usize>
     ensures { IfOk result (λ n. n ≤ length buffer.new) }
 {

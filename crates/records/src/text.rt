@@ -1,4 +1,5 @@
-// What is written to standard output: lines of counts, and hexadecimal numbers with a space before each. An error says that a write failed.
+// What is written to standard output: lines of counts, and hexadecimal numbers with a space before each. An error says that a write
+// failed: some of the text may then stand in the output. No other error comes.
 ghost use Rattle.std.specs.Prelude.{◌≡◌, length, IfOk};
 
 use crate::Tally;

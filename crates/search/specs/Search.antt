@@ -39,7 +39,7 @@ rounds key x (suc f) lo hi =
     let round = cond (leb (key (mid lo hi)) x) upper lower in
     cond (ltb lo hi) round (record { at = lo; probes = 0 })
 
--- the bisection from lo to hi. It never runs out of rounds: `run-done`, `run_Up` and `run_Down` are its equations with no bound on them
+-- the bisection from lo to hi. It never runs out of rounds: `run-done`, `run_up` and `run_down` are its equations with no bound on them
 unfoldable pub run : (ℕ → ℕ) → ℕ → ℕ → ℕ → Spot
 run key x lo hi = rounds key x (hi - lo) lo hi
 
