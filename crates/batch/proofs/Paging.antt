@@ -7,7 +7,8 @@ use mathlib.Core.Bool.{Bool, true, false, not}
 use native.Mathlib.Omega.{arith}
 use native.Mathlib.Decide.{dec_lt}
 use borrow.Author.Tests.{eq-eqb, ne_eqb, not-false}
-use Rattle.reader.specs.Reader.{Slice}
+use Rattle.reader.specs.Reader.{Slice, slice_told}
+use Rattle.std.specs.Borrow.{Bor}
 use Rattle.search.specs.declared.Keys.{Keys}
 use Rattle.search.specs.declared.Layout.{Layout}
 use Rattle.search.specs.declared.Spot.{Spot}
@@ -220,6 +221,12 @@ fines s l kind globals m x t z a b c d ez ea eb ec ed y ey q eq =
       fine s l kind globals t.granted t.globals-are t.few m.c x.c t.c z c ez ec y.c (ap (λ (k : Keys). k.c) ey) q.c at.2,
       fine s l kind globals t.granted t.globals-are t.few m.d x.d t.d z d ez ed y.d (ap (λ (k : Keys). k.d) ey) q.d at.3,
     )
+
+-- the same from what the lists' calls ensure
+pub fined : (kind : Kind) (r : Bor (List ℕ)) {l : Lists} {globals : List ℕ} {m : Pages} {x : Keys} → PagesFor r.now l kind globals m x
+    → {a b c d : Slice} → a ≡ list_in (slice_told r) m.a.place → b ≡ list_in (slice_told r) m.b.place → c ≡ list_in (slice_told r) m.c.place → d ≡ list_in (slice_told r) m.d.place
+    → {y : Keys} → y ≡ keys_in m x → {q : Spots} → q ≡ spots_in (layout kind) a.bytes b.bytes c.bytes d.bytes y → Fines r.now l globals m x q
+fined kind r t ea eb ec ed ey eq = fines _ _ kind _ _ _ t (slice_told r) _ _ _ _ refl ea eb ec ed _ ey _ eq
 
 -- four searches of the pages
 module _ (s : List ℕ) (l : Lists) (globals pages : List ℕ) (p : Spots) (x : Keys) (t : Searched s l globals pages p x) where

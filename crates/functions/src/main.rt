@@ -4,10 +4,10 @@
 
 fn main(rt: HostRuntime) {
     let mut input = [0u8; 65537];
-    match lister::read_full(&mut rt.reader(), &mut input) {
+    match streams::read_full(&mut rt.reader(), &mut input) {
         Ok(n) => {
             lister::list(&rt, &input[..n]);
         }
-        Err(error) => lister::say(&rt, "standard input", &error),
+        Err(error) => streams::say(&rt, "standard input", &error),
     }
 }

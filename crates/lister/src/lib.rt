@@ -12,10 +12,7 @@ ghost use Rattle.lister.specs.Block.{start, room_in, counted, stop_text, is_end,
 use fill::Stop;
 use iterate::Cursor;
 use raw::{Lists, Parsed};
-
-mod streams;
-
-pub use streams::{read_full, say};
+use streams::say;
 
 // Where a listing stands: the cursor of the next call, the functions so far, and whether the end is written.
 #[derive(Clone, Copy)]

@@ -9,10 +9,8 @@ ghost use Rattle.records.specs.Records.{numbers_of, same_of, counted_of};
 use reader::Read64;
 use std::num::wrapping_add_u64;
 
-mod input;
 mod text;
 
-pub use input::read_full;
 pub use text::{put_16, put_32, put_64, show, show_count};
 
 #[derive(Clone, Copy)]

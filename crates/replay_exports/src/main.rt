@@ -22,7 +22,7 @@ mod words;
 
 fn main(rt: HostRuntime) -> io::Result<()> {
     let mut buffer = [0u8; 65536];
-    let n = records::read_full(&mut rt.reader(), &mut buffer)?;
+    let n = streams::read_full(&mut rt.reader(), &mut buffer)?;
     replay(&rt, &buffer[..n])
 }
 

@@ -19,8 +19,9 @@
 
 use answers::is_ours;
 use reader::{part, u32_or_0};
-use records::{Tally, read_full, show, show_count, u64_or_0};
+use records::{Tally, show, show_count, u64_or_0};
 use std::io;
+use streams::read_full;
 
 mod answers;
 

@@ -13,7 +13,7 @@ use std::io;
 
 fn main(rt: HostRuntime) -> io::Result<()> {
     let mut buffer = [0u8; 262144];
-    let n = lister::read_full(&mut rt.reader(), &mut buffer)?;
+    let n = streams::read_full(&mut rt.reader(), &mut buffer)?;
     replay(&rt, &buffer[..n]);
     Ok(())
 }

@@ -23,8 +23,9 @@ ghost use Rattle.std.specs.Prelude.{◌≡◌, length};
 
 use answers::answer;
 use reader::{part, u32_or_0};
-use records::{Tally, read_full, show};
+use records::{Tally, show};
 use std::io;
+use streams::read_full;
 
 mod answers;
 

@@ -22,8 +22,9 @@
 
 use answers::answer;
 use reader::{part, u32_or_0};
-use records::{Tally, read_full, show, show_count};
+use records::{Tally, show, show_count};
 use std::io;
+use streams::read_full;
 
 mod answers;
 

@@ -38,7 +38,8 @@ row s formed range calls lookups = record { section = s; formed = formed; range 
 
 -- the same questions, with the answers that the definitions give; to unfold it is to unfold all of them
 unfoldable pub answered : Row → Row
-unfolding number_at granted_of read_of word_at part_of count_of key_of mid more rounds run search_of grant_of header_of parse_of globals_of pages_of first_in offset_in regular_of compressed_of by_kind page_of locals_granted open_of functions_of locals_of four_of is_global opcode_part start_in end_in resolve_of opcode_in palette_of origin_in function_in start_of function_of first_of offset_of page_at opened_at function_at in_page next_from next_of next_on range_of range_on from_spot from_page at_page from_pages lookup_of lookup_on all good_function good_functions good_opened good_page good_pages well_formed
+unfolding number_at granted_of read_of word_at part_of count_of key_of mid more rounds run search_of grant_of header_of parse_of globals_of pages_of first_in offset_in regular_of compressed_of by_kind page_of locals_granted open_of
+    functions_of locals_of four_of is_global opcode_part start_in end_in resolve_of opcode_in palette_of origin_in function_in start_of function_of first_of offset_of page_at opened_at function_at in_page next_from next_of next_on range_of range_on from_spot from_page at_page from_pages lookup_of lookup_on all good_function good_functions good_opened good_page good_pages well_formed
 answered r =
     row r.section (well_formed r.section) (range_on r.section)
     (map (λ (q : Asked Cursor Step). q.question ⇒ next_on r.section q.question) r.calls)

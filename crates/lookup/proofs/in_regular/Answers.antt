@@ -15,8 +15,9 @@ functions_of-requires c =
 
 pub overflow_add-all : goal.overflow_add-all
 overflow_add-all c =
+    let small : c.args.q.page.functions_len < 4294967296 = search rules in
     let h = few-functions _ c.args.q _ c.functions_of.ensures in
-    omega (arith, few _ _ _ _ _ (by_kind _ _ Kind.Regular _ c.requires.2 c.search_regular-spot.ensures) h ((let small : c.args.q.page.functions_len < 4294967296 = search rules in small)), c.requires.0)
+    omega (arith, few _ _ _ _ _ (by_kind _ _ Kind.Regular _ c.requires.2 c.search_regular-spot.ensures) h small, c.requires.0)
 
 pub returns-then-at-eq0 : goal.returns-then-at-eq0
 returns-then-at-eq0 c =
@@ -24,8 +25,9 @@ returns-then-at-eq0 c =
 
 pub overflow_cast-at : goal.overflow_cast-at
 overflow_cast-at c =
+    let small : c.args.q.page.functions_len < 4294967296 = search rules in
     let h = few-functions _ c.args.q _ c.functions_of.ensures in
-    omega (arith, within _ _ _ _ _ (by_kind _ _ Kind.Regular _ c.requires.2 c.search_regular-spot.ensures) h, (let small : c.args.q.page.functions_len < 4294967296 = search rules in small))
+    omega (arith, within _ _ _ _ _ (by_kind _ _ Kind.Regular _ c.requires.2 c.search_regular-spot.ensures) h, small)
 
 pub returns : goal.returns
 returns c =

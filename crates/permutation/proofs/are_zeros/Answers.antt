@@ -24,17 +24,17 @@ found xs i h n = rw (drop-cons xs i 0, ne_eqb 0 (get_or xs i 0) (λ e. n (sym e)
 pub returns-then-registers-i-ne0 : goal.returns-then-registers-i-ne0
 returns-then-registers-i-ne0 c =
     let xs = c.args.registers in
-    sym (c.loop-i.invariant ∙ found xs c.loop-i.i (omega (arith, (let six : length c.args.registers ≡ 6 = good_length (e_int w8) 6 c.args.registers _ c.well_formed.0 in six))) c.if-registers-i-ne0.true)
+    sym (c.loop-i.invariant ∙ found xs c.loop-i.i (omega (arith, good_length (e_int w8) 6 c.args.registers _ c.well_formed.0)) c.if-registers-i-ne0.true)
 
 pub loop-i-preserved : goal.loop-i-preserved
 loop-i-preserved c =
     let xs = c.args.registers in
-    rw add-one (c.loop-i.invariant ∙ passed xs c.loop-i.i (omega (arith, (let six : length c.args.registers ≡ 6 = good_length (e_int w8) 6 c.args.registers _ c.well_formed.0 in six))) c.if-registers-i-ne0.false)
+    rw add-one (c.loop-i.invariant ∙ passed xs c.loop-i.i (omega (arith, good_length (e_int w8) 6 c.args.registers _ c.well_formed.0)) c.if-registers-i-ne0.false)
 
 pub returns : goal.returns
 returns c =
     let xs = c.args.registers in
-    sym (c.loop-i.invariant ∙ ap (every (eqb 0)) (drop_of_length-le xs {i = c.loop-i.i} (omega (arith, (let six : length c.args.registers ≡ 6 = good_length (e_int w8) 6 c.args.registers _ c.well_formed.0 in six)))))
+    sym (c.loop-i.invariant ∙ ap (every (eqb 0)) (drop_of_length-le xs {i = c.loop-i.i} (omega (arith, good_length (e_int w8) 6 c.args.registers _ c.well_formed.0))))
 
 pub loop-i-init : goal.loop-i-init
 loop-i-init c = refl

@@ -13,7 +13,7 @@ use lib.ListN.{length, get_or, take, set}
 use lib.Seq.{get_or-take, length-take-le}
 use Rattle.permutation.specs.Permutation.{rows, weights, member}
 use Rattle.permutation.specs.Flags.{unused}
-use Rattle.permutation.proofs.Flagged.{Free, free_of}
+use Rattle.permutation.proofs.Flagged.{free_of}
 use Rattle.permutation.proofs.Digits.{weights-long, weight-small}
 use Rattle.permutation.proofs.Encoding.{Turn, start, refused, next, refuses-count, refuses-drawn, refuses-rest, accepts}
 use Rattle.permutation.proofs.encode_permutation_6.Goals as goal
@@ -46,9 +46,9 @@ pub returns-then-are_zeros : goal.returns-then-are_zeros
 unfolding rows
 returns-then-are_zeros c =
     let n = c.args.count in
-    let k : length (take n c.args.registers) ≡ n = length-take-le n c.args.registers (omega (arith, (let six : length c.args.registers ≡ 6 = good_length (e_int w8) 6 c.args.registers _ c.well_formed.1.0 in six))) in
+    let k : length (take n c.args.registers) ≡ n = length-take-le n c.args.registers (omega (arith, good_length (e_int w8) 6 c.args.registers _ c.well_formed.1.0)) in
     let e : c.loop-i.i ≡ n = omega (arith, c.loop-i.invariant.upto) in
-    sym (accepts n c.args.registers c.loop-i.used c.loop-i.sum (omega arith) ((let six : length c.args.registers ≡ 6 = good_length (e_int w8) 6 c.args.registers _ c.well_formed.1.0 in six))
+    sym (accepts n c.args.registers c.loop-i.used c.loop-i.sum (omega arith) (good_length (e_int w8) 6 c.args.registers _ c.well_formed.1.0)
     (subst (λ (i : ℕ). Turn (weights n) (take n c.args.registers) c.loop-i.used c.loop-i.sum i) e c.loop-i.invariant) (sym c.are_zeros.ensures ∙ c.if-are_zeros.true))
 
 pub returns-else-are_zeros : goal.returns-else-are_zeros
@@ -58,7 +58,7 @@ pub returns-then-not-is_unused : goal.returns-then-not-is_unused
 unfolding rows
 returns-then-not-is_unused c =
     let n = c.args.count in
-    let k : length (take n c.args.registers) ≡ n = length-take-le n c.args.registers (omega (arith, (let six : length c.args.registers ≡ 6 = good_length (e_int w8) 6 c.args.registers _ c.well_formed.1.0 in six))) in
+    let k : length (take n c.args.registers) ≡ n = length-take-le n c.args.registers (omega (arith, good_length (e_int w8) 6 c.args.registers _ c.well_formed.1.0)) in
     let e = get_or-take n c.args.registers c.loop-i.i 0 c.loop-i-test.true in
     let m : member (get_or (take n c.args.registers) c.loop-i.i 0) (unused c.loop-i.used) ≡ false =
     ap (λ (x : ℕ). member x (unused c.loop-i.used)) e ∙ sym c.is_unused.ensures ∙ c.if-not-is_unused.true in
@@ -67,23 +67,23 @@ returns-then-not-is_unused c =
 
 pub place-at-requires : goal.place-at-requires
 place-at-requires c =
-    ((let free : Free c.loop-i.used (get_or c.args.registers c.loop-i.i 0) = free_of _ _ (sym c.is_unused.ensures ∙ c.if-not-is_unused.false) in free)).low
+    (free_of c.loop-i.used (get_or c.args.registers c.loop-i.i 0) (sym c.is_unused.ensures ∙ c.if-not-is_unused.false)).low
 
 pub rank-requires : goal.rank-requires
 rank-requires c =
-    omega (arith, c.place-at.ensures, ((let free : Free c.loop-i.used (get_or c.args.registers c.loop-i.i 0) = free_of _ _ (sym c.is_unused.ensures ∙ c.if-not-is_unused.false) in free)).high, c.loop-i.invariant.flags)
+    omega (arith, c.place-at.ensures, (free_of c.loop-i.used (get_or c.args.registers c.loop-i.i 0) (sym c.is_unused.ensures ∙ c.if-not-is_unused.false)).high, c.loop-i.invariant.flags)
 
 pub bounds-used-at : goal.bounds-used-at
 bounds-used-at c =
-    omega (arith, c.place-at.ensures, ((let free : Free c.loop-i.used (get_or c.args.registers c.loop-i.i 0) = free_of _ _ (sym c.is_unused.ensures ∙ c.if-not-is_unused.false) in free)).high, c.loop-i.invariant.flags)
+    omega (arith, c.place-at.ensures, (free_of c.loop-i.used (get_or c.args.registers c.loop-i.i 0) (sym c.is_unused.ensures ∙ c.if-not-is_unused.false)).high, c.loop-i.invariant.flags)
 
 pub loop-i-preserved : goal.loop-i-preserved
 unfolding rows
 loop-i-preserved c =
     let n = c.args.count in
     let h : c.loop-i.i < n = c.loop-i-test.true in
-    let f = (let free : Free c.loop-i.used (get_or c.args.registers c.loop-i.i 0) = free_of _ _ (sym c.is_unused.ensures ∙ c.if-not-is_unused.false) in free) in
-    let k : length (take n c.args.registers) ≡ n = length-take-le n c.args.registers (omega (arith, (let six : length c.args.registers ≡ 6 = good_length (e_int w8) 6 c.args.registers _ c.well_formed.1.0 in six))) in
+    let f = free_of c.loop-i.used (get_or c.args.registers c.loop-i.i 0) (sym c.is_unused.ensures ∙ c.if-not-is_unused.false) in
+    let k : length (take n c.args.registers) ≡ n = length-take-le n c.args.registers (omega (arith, good_length (e_int w8) 6 c.args.registers _ c.well_formed.1.0)) in
     let ew = get_or-take n (get_or rows n []) c.loop-i.i 0 h ∙ sym c.wide.ensures in
     let ey = get_or-take n c.args.registers c.loop-i.i 0 h in
     let g = next (weights n) (take n c.args.registers) c.loop-i.used c.loop-i.sum c.loop-i.i c.loop-i.invariant (omega (arith, weights-long n (omega arith))) (omega arith)

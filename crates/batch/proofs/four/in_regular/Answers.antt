@@ -1,21 +1,20 @@
 -- `batch::four::in_regular` meets its contract: each answer is put before the next is read.
 -- Assumes nothing.
-use mathlib.Core.Path.{refl, ap, ◌∙◌}
+use mathlib.Core.Path.{ap, ◌∙◌}
 use native.Mathlib.Omega.{arith}
-use Rattle.reader.specs.Reader.{slice_told}
 use Rattle.raw.specs.declared.Kind.{Kind}
 use Rattle.entries.specs.Placed.{read_of}
 use Rattle.lookup.specs.Lookup.{lookup_in}
-use Rattle.batch.proofs.Paging.{Fines, fines, four-puts}
+use Rattle.batch.proofs.Paging.{fined, four-puts}
 use Rattle.batch.proofs.four.in_regular.Goals as goal
 
 pub before-requires : goal.before-requires
 before-requires c =
-    ((let facts : Fines c.args.s.now c.args.lists c.args.globals.now c.args.m c.args.x c.search_regular-q.result = fines _ _ Kind.Regular _ _ _ c.requires.0 (slice_told c.args.s) _ _ _ _ refl c.list_of.ensures c.list_of-2.ensures c.list_of-3.ensures c.list_of-4.ensures _ c.keys_in.ensures _ c.search_regular-q.ensures in facts)).0.0
+    (fined Kind.Regular c.args.s c.requires.0 c.list_of.ensures c.list_of-2.ensures c.list_of-3.ensures c.list_of-4.ensures c.keys_in.ensures c.search_regular-q.ensures).0.0
 
 pub tell-requires : goal.tell-requires
 tell-requires c =
-    let f = ((let facts : Fines c.args.s.now c.args.lists c.args.globals.now c.args.m c.args.x c.search_regular-q.result = fines _ _ Kind.Regular _ _ _ c.requires.0 (slice_told c.args.s) _ _ _ _ refl c.list_of.ensures c.list_of-2.ensures c.list_of-3.ensures c.list_of-4.ensures _ c.keys_in.ensures _ c.search_regular-q.ensures in facts)).0 in
+    let f = (fined Kind.Regular c.args.s c.requires.0 c.list_of.ensures c.list_of-2.ensures c.list_of-3.ensures c.list_of-4.ensures c.keys_in.ensures c.search_regular-q.ensures).0 in
     (f.1, f.2)
 
 pub put-requires : goal.put-requires
@@ -23,11 +22,11 @@ put-requires c = omega (arith, c.requires.1)
 
 pub before-requires-2 : goal.before-requires-2
 before-requires-2 c =
-    ((let facts : Fines c.args.s.now c.args.lists c.args.globals.now c.args.m c.args.x c.search_regular-q.result = fines _ _ Kind.Regular _ _ _ c.requires.0 (slice_told c.args.s) _ _ _ _ refl c.list_of.ensures c.list_of-2.ensures c.list_of-3.ensures c.list_of-4.ensures _ c.keys_in.ensures _ c.search_regular-q.ensures in facts)).1.0
+    (fined Kind.Regular c.args.s c.requires.0 c.list_of.ensures c.list_of-2.ensures c.list_of-3.ensures c.list_of-4.ensures c.keys_in.ensures c.search_regular-q.ensures).1.0
 
 pub tell-requires-2 : goal.tell-requires-2
 tell-requires-2 c =
-    let f = ((let facts : Fines c.args.s.now c.args.lists c.args.globals.now c.args.m c.args.x c.search_regular-q.result = fines _ _ Kind.Regular _ _ _ c.requires.0 (slice_told c.args.s) _ _ _ _ refl c.list_of.ensures c.list_of-2.ensures c.list_of-3.ensures c.list_of-4.ensures _ c.keys_in.ensures _ c.search_regular-q.ensures in facts)).1 in
+    let f = (fined Kind.Regular c.args.s c.requires.0 c.list_of.ensures c.list_of-2.ensures c.list_of-3.ensures c.list_of-4.ensures c.keys_in.ensures c.search_regular-q.ensures).1 in
     (f.1, f.2)
 
 pub overflow_add-k : goal.overflow_add-k
@@ -35,11 +34,11 @@ overflow_add-k c = omega (arith, c.requires.1, c.well_formed.1.1.1.1.1.0)
 
 pub before-requires-3 : goal.before-requires-3
 before-requires-3 c =
-    ((let facts : Fines c.args.s.now c.args.lists c.args.globals.now c.args.m c.args.x c.search_regular-q.result = fines _ _ Kind.Regular _ _ _ c.requires.0 (slice_told c.args.s) _ _ _ _ refl c.list_of.ensures c.list_of-2.ensures c.list_of-3.ensures c.list_of-4.ensures _ c.keys_in.ensures _ c.search_regular-q.ensures in facts)).2.0
+    (fined Kind.Regular c.args.s c.requires.0 c.list_of.ensures c.list_of-2.ensures c.list_of-3.ensures c.list_of-4.ensures c.keys_in.ensures c.search_regular-q.ensures).2.0
 
 pub tell-requires-3 : goal.tell-requires-3
 tell-requires-3 c =
-    let f = ((let facts : Fines c.args.s.now c.args.lists c.args.globals.now c.args.m c.args.x c.search_regular-q.result = fines _ _ Kind.Regular _ _ _ c.requires.0 (slice_told c.args.s) _ _ _ _ refl c.list_of.ensures c.list_of-2.ensures c.list_of-3.ensures c.list_of-4.ensures _ c.keys_in.ensures _ c.search_regular-q.ensures in facts)).2 in
+    let f = (fined Kind.Regular c.args.s c.requires.0 c.list_of.ensures c.list_of-2.ensures c.list_of-3.ensures c.list_of-4.ensures c.keys_in.ensures c.search_regular-q.ensures).2 in
     (f.1, f.2)
 
 pub overflow_add-k-2 : goal.overflow_add-k-2
@@ -47,11 +46,11 @@ overflow_add-k-2 c = omega (arith, c.requires.1, c.well_formed.1.1.1.1.1.0)
 
 pub before-requires-4 : goal.before-requires-4
 before-requires-4 c =
-    ((let facts : Fines c.args.s.now c.args.lists c.args.globals.now c.args.m c.args.x c.search_regular-q.result = fines _ _ Kind.Regular _ _ _ c.requires.0 (slice_told c.args.s) _ _ _ _ refl c.list_of.ensures c.list_of-2.ensures c.list_of-3.ensures c.list_of-4.ensures _ c.keys_in.ensures _ c.search_regular-q.ensures in facts)).3.0
+    (fined Kind.Regular c.args.s c.requires.0 c.list_of.ensures c.list_of-2.ensures c.list_of-3.ensures c.list_of-4.ensures c.keys_in.ensures c.search_regular-q.ensures).3.0
 
 pub tell-requires-4 : goal.tell-requires-4
 tell-requires-4 c =
-    let f = ((let facts : Fines c.args.s.now c.args.lists c.args.globals.now c.args.m c.args.x c.search_regular-q.result = fines _ _ Kind.Regular _ _ _ c.requires.0 (slice_told c.args.s) _ _ _ _ refl c.list_of.ensures c.list_of-2.ensures c.list_of-3.ensures c.list_of-4.ensures _ c.keys_in.ensures _ c.search_regular-q.ensures in facts)).3 in
+    let f = (fined Kind.Regular c.args.s c.requires.0 c.list_of.ensures c.list_of-2.ensures c.list_of-3.ensures c.list_of-4.ensures c.keys_in.ensures c.search_regular-q.ensures).3 in
     (f.1, f.2)
 
 pub overflow_add-k-3 : goal.overflow_add-k-3
@@ -60,7 +59,7 @@ overflow_add-k-3 c = omega (arith, c.requires.1, c.well_formed.1.1.1.1.1.0)
 pub returns : goal.returns
 returns c =
     let a = c.args in
-    let told = (let facts : Fines c.args.s.now c.args.lists c.args.globals.now c.args.m c.args.x c.search_regular-q.result = fines _ _ Kind.Regular _ _ _ c.requires.0 (slice_told c.args.s) _ _ _ _ refl c.list_of.ensures c.list_of-2.ensures c.list_of-3.ensures c.list_of-4.ensures _ c.keys_in.ensures _ c.search_regular-q.ensures in facts) in
+    let told = fined Kind.Regular c.args.s c.requires.0 c.list_of.ensures c.list_of-2.ensures c.list_of-3.ensures c.list_of-4.ensures c.keys_in.ensures c.search_regular-q.ensures in
     let reads = read_of a.s.now a.globals.now in
     four-puts (lookup_in a.s.now a.lists) a.x a.k _ _ _ _ _ _ _ _ _
     (c.tell.ensures ∙ told.0.3 _ (c.read-fa.ensures ∙ ap (reads a.m.a.place) c.before-2.ensures))

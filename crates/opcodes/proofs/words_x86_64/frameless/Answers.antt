@@ -3,23 +3,24 @@
 use Prim.Native.Nat.{ℕ, ◌/◌, ◌%◌}
 use mathlib.Core.Path.{◌≡◌, ap, sym, ◌∙◌}
 use native.Mathlib.Nat.{div-one}
-use Rattle.permutation.specs.Permutation.{decode_of, told}
+use Rattle.permutation.specs.Permutation.{Told, decode_of}
 use Rattle.opcodes.specs.Bits.{bits}
 use Rattle.opcodes.proofs.NumbersX86.{invalid, immediate, indirect}
 use Rattle.opcodes.proofs.words_x86_64.frameless.Goals as goal
 
+-- the decoder was given the word's two fields
+decoded : (w : ℕ) {t : Told} → t ≡ decode_of (w / 1024 % 8) (w % 1024) → t ≡ decode_of (bits 10 3 w) (bits 0 10 w)
+decoded w e = e ∙ ap (λ (x : ℕ). decode_of (w / 1024 % 8) (x % 1024)) (sym (div-one w))
+
 pub returns-in_default : goal.returns-in_default
 returns-in_default c =
     c.alone.ensures
-    ∙ invalid _ c.requires c.decode_permutation_6-permutation.result.registers c.decode_permutation_6-permutation.result.decoded ((let decoded : told c.decode_permutation_6-permutation.result ≡ decode_of (bits 10 3 c.args.opcode) (bits 0 10 c.args.opcode) = let w = c.args.opcode in
-    c.decode_permutation_6-permutation.ensures ∙ ap (λ (x : ℕ). decode_of (w / 1024 % 8) (x % 1024)) (sym (div-one w)) in decoded)) c.in_default.is
+    ∙ invalid _ c.requires c.decode_permutation_6-permutation.result.registers c.decode_permutation_6-permutation.result.decoded (decoded _ c.decode_permutation_6-permutation.ensures) c.in_default.is
 
 pub returns-then-opcode-eq0 : goal.returns-then-opcode-eq0
 returns-then-opcode-eq0 c =
-    immediate _ c.requires c.decode_permutation_6-permutation.result.registers c.decode_permutation_6-permutation.result.decoded ((let decoded : told c.decode_permutation_6-permutation.result ≡ decode_of (bits 10 3 c.args.opcode) (bits 0 10 c.args.opcode) = let w = c.args.opcode in
-    c.decode_permutation_6-permutation.ensures ∙ ap (λ (x : ℕ). decode_of (w / 1024 % 8) (x % 1024)) (sym (div-one w)) in decoded)) c.in-Accepted.is c.if-opcode-eq0.true
+    immediate _ c.requires c.decode_permutation_6-permutation.result.registers c.decode_permutation_6-permutation.result.decoded (decoded _ c.decode_permutation_6-permutation.ensures) c.in-Accepted.is c.if-opcode-eq0.true
 
 pub returns : goal.returns
 returns c =
-    indirect _ c.requires c.decode_permutation_6-permutation.result.registers c.decode_permutation_6-permutation.result.decoded ((let decoded : told c.decode_permutation_6-permutation.result ≡ decode_of (bits 10 3 c.args.opcode) (bits 0 10 c.args.opcode) = let w = c.args.opcode in
-    c.decode_permutation_6-permutation.ensures ∙ ap (λ (x : ℕ). decode_of (w / 1024 % 8) (x % 1024)) (sym (div-one w)) in decoded)) c.in-Accepted.is c.if-opcode-eq0.false
+    indirect _ c.requires c.decode_permutation_6-permutation.result.registers c.decode_permutation_6-permutation.result.decoded (decoded _ c.decode_permutation_6-permutation.ensures) c.in-Accepted.is c.if-opcode-eq0.false

@@ -18,14 +18,14 @@ loop-p-init c = (omega arith, omega arith, refl)
 pub returns : goal.returns
 returns c =
     let a = c.args in
-    let e : c.loop-p.p ≡ length a.pairs = omega (arith, (let size : length c.args.pairs ≡ 9 = good_length e_bool 9 c.args.pairs _ c.well_formed.0 in size)) in
+    let e : c.loop-p.p ≡ length a.pairs = omega (arith, (good_length e_bool 9 c.args.pairs _ c.well_formed.0)) in
     ap {B = Ruling} (λ (ds : List ℕ). record { refusal = numbered 0 0; anchor = register 10; distance = 16; return = slot 8; below = ds })
     (end (set (set (replicate 20 0) 10 16) 11 8) a.pairs c.loop-p.below c.loop-p.next (rw e at c.loop-p.invariant.2))
 
 pub loop-p-preserved : goal.loop-p-preserved
 loop-p-preserved c =
     let a = c.args in
-    let h : c.loop-p.p < length a.pairs = omega (arith, (let size : length c.args.pairs ≡ 9 = good_length e_bool 9 c.args.pairs _ c.well_formed.0 in size), c.loop-p-test.true) in
+    let h : c.loop-p.p < length a.pairs = omega (arith, (good_length e_bool 9 c.args.pairs _ c.well_formed.0), c.loop-p-test.true) in
     let first : List ℕ = set (set (replicate 20 0) 10 16) 11 8 in (
       omega arith,
       elim c.if-pairs-p.branch [ then-pairs-p w ↦ omega arith | else-pairs-p w ↦ omega arith ],

@@ -1,28 +1,27 @@
 -- `search::four::search_regular` meets its contract: side by side or alone, each search ends as the single one.
 -- Assumes nothing.
-use Rattle.search.specs.Steps.{Alike}
 use Rattle.search.proofs.Turns.{alike, all-ended, each}
 use Rattle.search.proofs.four.search_regular.Goals as goal
 
 pub down_regular-p-requires : goal.down_regular-p-requires
 down_regular-p-requires c =
-    (c.count_all-n.ensures, (let likeness : Alike c.halvings-rounds.result c.count_all-n.result = alike _ _ _ _ _ c.if-rounds-halvings.false c.halvings-rounds.ensures c.halvings.ensures c.fewest.ensures c.most.ensures in likeness))
+    (c.count_all-n.ensures, (alike _ _ _ _ _ c.if-rounds-halvings.false c.halvings-rounds.ensures c.halvings.ensures c.fewest.ensures c.most.ensures))
 
 pub ended-requires : goal.ended-requires
 ended-requires c =
-    (all-ended _ _ _ _ _ _ _ c.count_all-n.ensures _ ((let likeness : Alike c.halvings-rounds.result c.count_all-n.result = alike _ _ _ _ _ c.if-rounds-halvings.false c.halvings-rounds.ensures c.halvings.ensures c.fewest.ensures c.most.ensures in likeness)) _ c.down_regular-p.ensures).0
+    (all-ended _ _ _ _ _ _ _ c.count_all-n.ensures _ (alike _ _ _ _ _ c.if-rounds-halvings.false c.halvings-rounds.ensures c.halvings.ensures c.fewest.ensures c.most.ensures) _ c.down_regular-p.ensures).0
 
 pub ended-requires-2 : goal.ended-requires-2
 ended-requires-2 c =
-    (all-ended _ _ _ _ _ _ _ c.count_all-n.ensures _ ((let likeness : Alike c.halvings-rounds.result c.count_all-n.result = alike _ _ _ _ _ c.if-rounds-halvings.false c.halvings-rounds.ensures c.halvings.ensures c.fewest.ensures c.most.ensures in likeness)) _ c.down_regular-p.ensures).1
+    (all-ended _ _ _ _ _ _ _ c.count_all-n.ensures _ (alike _ _ _ _ _ c.if-rounds-halvings.false c.halvings-rounds.ensures c.halvings.ensures c.fewest.ensures c.most.ensures) _ c.down_regular-p.ensures).1
 
 pub ended-requires-3 : goal.ended-requires-3
 ended-requires-3 c =
-    (all-ended _ _ _ _ _ _ _ c.count_all-n.ensures _ ((let likeness : Alike c.halvings-rounds.result c.count_all-n.result = alike _ _ _ _ _ c.if-rounds-halvings.false c.halvings-rounds.ensures c.halvings.ensures c.fewest.ensures c.most.ensures in likeness)) _ c.down_regular-p.ensures).2
+    (all-ended _ _ _ _ _ _ _ c.count_all-n.ensures _ (alike _ _ _ _ _ c.if-rounds-halvings.false c.halvings-rounds.ensures c.halvings.ensures c.fewest.ensures c.most.ensures) _ c.down_regular-p.ensures).2
 
 pub ended-requires-4 : goal.ended-requires-4
 ended-requires-4 c =
-    (all-ended _ _ _ _ _ _ _ c.count_all-n.ensures _ ((let likeness : Alike c.halvings-rounds.result c.count_all-n.result = alike _ _ _ _ _ c.if-rounds-halvings.false c.halvings-rounds.ensures c.halvings.ensures c.fewest.ensures c.most.ensures in likeness)) _ c.down_regular-p.ensures).3
+    (all-ended _ _ _ _ _ _ _ c.count_all-n.ensures _ (alike _ _ _ _ _ c.if-rounds-halvings.false c.halvings-rounds.ensures c.halvings.ensures c.fewest.ensures c.most.ensures) _ c.down_regular-p.ensures).3
 
 pub returns : goal.returns
 returns c = each c.ended.ensures c.ended-2.ensures c.ended-3.ensures c.ended-4.ensures

@@ -1,6 +1,6 @@
 -- `opcodes::words_arm64::WordArm64::parse` meets its contract: what the word says by its kind.
 -- Assumes nothing.
-use mathlib.Core.Path.{◌≡◌, ap, sym, ◌∙◌}
+use mathlib.Core.Path.{ap, sym, ◌∙◌}
 use native.Mathlib.Omega.{arith}
 use lib.Bits.{bit_and, and_le_r}
 use lib.Count.{ones-le}
@@ -18,8 +18,8 @@ overflow_cast-result-then-kind-eq-OPCODE_KIND_ARM64_FRAMEBASED c = record { fits
 
 pub returns-then-kind-eq-OPCODE_KIND_ARM64_FRAMEBASED : goal.returns-then-kind-eq-OPCODE_KIND_ARM64_FRAMEBASED
 returns-then-kind-eq-OPCODE_KIND_ARM64_FRAMEBASED c =
-    based _ ((let kind-is : kind_of c.args.opcode ≡ c.kind-kind.result = sym (c.kind-kind.ensures ∙ ap kind_of c.new.ensures) in kind-is) ∙ c.if-kind-eq-OPCODE_KIND_ARM64_FRAMEBASED.true)
+    based _ ((sym (c.kind-kind.ensures ∙ ap kind_of c.new.ensures)) ∙ c.if-kind-eq-OPCODE_KIND_ARM64_FRAMEBASED.true)
 
 pub returns : goal.returns
 returns c =
-    not-based _ _ _ _ ((let kind-is : kind_of c.args.opcode ≡ c.kind-kind.result = sym (c.kind-kind.ensures ∙ ap kind_of c.new.ensures) in kind-is)) c.if-kind-eq-OPCODE_KIND_ARM64_FRAMEBASED.false c.answer_of.ensures c.value_of.ensures
+    not-based _ _ _ _ (sym (c.kind-kind.ensures ∙ ap kind_of c.new.ensures)) c.if-kind-eq-OPCODE_KIND_ARM64_FRAMEBASED.false c.answer_of.ensures c.value_of.ensures

@@ -1,4 +1,6 @@
-// What a program reads, and what it says where a read or a write fails.
+// What the programs read, and what they say where a read or a write fails.
+#![tactic(auto)]
+
 ghost use Rattle.std.specs.Prelude.{◌≤◌, length, IfOk};
 
 use reader::part;
