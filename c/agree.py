@@ -396,37 +396,43 @@ def found(path, pattern):
     return place[1]
 
 
-def numbered(source):
-    """What `fn number` gives in a crate's source: pairs of a name and a number."""
-    body = found(source, r"fn number\(self\)(.*?)^    }$")
-    for name, number in re.findall(r"::(\w+)[^=\n]*=> (\d+),", body):
+def numbered(source, enum=None):
+    """The numbers of an enum in a crate's source: of its variants, or, where no enum is named, what `fn number` gives; pairs of a name and a number."""
+    if enum:
+        body = found(source, rf"^pub enum {enum} {{(.*?)^}}$")
+        found(source, r"fn number\(self\) -> u8\s+ensures {[^}]*}\s+{\s+(self as u8)\s+}")
+    else:
+        body = found(source, r"fn number\(self\)(.*?)^    }$")
+    for name, number in re.findall(r"(\w+) = (\d+)," if enum else r"::(\w+)[^=\n]*=> (\d+),", body):
         yield name, int(number)
 
 
 def origins(crates):
     """The sources' origins as the header names them; it has one more, for no function."""
     yield "ORIGIN_NONE", 0
-    for name, number in numbered(crates / "entries/src/lib.rt"):
+    for name, number in numbered(crates / "entries/src/lib.rt", "Origin"):
         yield "ORIGIN_" + ORIGINS.get(name, snake(name).upper()), number
 
 
 def states(crates):
     """What a number says of a register, as the header names it."""
     source = (crates / "brasspurse/src/words.rt").read_text()
+    absent = found(crates / "brasspurse/src/words.rt", r"Named::(\w+) => RegisterAnswer::default\(\),")
+    yield "REGISTER_" + STATES.get(absent, snake(absent).upper()), 0
     for name, number in re.findall(r"Named::(\w+)[^=]*=> RegisterAnswer {\s*state: (\d+),", source):
         yield "REGISTER_" + STATES.get(name, snake(name).upper()), int(number)
 
 
 def refusals(crates):
     """The sources' refusals as the header names them: pairs of a name and a number."""
-    for crate in ("raw", "rules"):
-        for name, number in numbered(crates / crate / "src/lib.rt"):
+    for crate, enum in (("raw", "Error"), ("rules", None)):
+        for name, number in numbered(crates / crate / "src/lib.rt", enum):
             yield "REFUSED_" + snake(name).upper(), number
     for name, crate, pattern in (
-        ("NOT_REFUSED", "rules", r"Outcome::Answered => (\d+),"),
-        ("REFUSED_INVALID_FRAMELESS", "permutation", r"Decoded::Refused => (\d+),"),
-        ("REFUSED_LIST", "permutation", r"Encoded::Refused => (\d+),"),
-        ("REFUSED_INPUT_TOO_LONG", "lister", r"Accepted::Refused\((\d+)\)"),
+        ("NOT_REFUSED", "rules", r"fn number_of.*?Ok\(_\) => (\d+),"),
+        ("REFUSED_INVALID_FRAMELESS", "permutation", r"^pub enum Error {[^}]*Encoding = (\d+),"),
+        ("REFUSED_LIST", "permutation", r"^pub enum Error {[^}]*List = (\d+),"),
+        ("REFUSED_INPUT_TOO_LONG", "lister", r"Refusal::TooLong => (\d+),"),
     ):
         yield name, int(found(crates / crate / "src/lib.rt", pattern))
 

@@ -1,7 +1,7 @@
 -- docs/FORMAT.md, 4.3: many addresses in one call; each answer is six numbers, which tell what the lookup of its address tells.
 -- Assumes nothing.
-use Rattle.std.specs.Prelude.{ℕ, ◌+◌, ◌*◌, ◌/◌, cond, ◌≡◌, List, [], ◌∷◌, ◌++◌, leb, length, take, drop}
-use Rattle.search.specs.declared.Keys.{Keys}
+use Rattle.std.specs.Prelude.{ℕ, ◌+◌, ◌*◌, ◌/◌, cond, List, [], ◌∷◌, ◌++◌, leb, length, take, drop}
+use Rattle.search.specs.declared.four.Four.{Four}
 use Rattle.entries.specs.Entries.{origin_number}
 use Rattle.batch.specs.declared.Numbers.{Numbers}
 use Rattle.lookup.specs.Lookup.{Looked, found, nothing, refusal, lookup_on}
@@ -52,9 +52,5 @@ put_of out k n = take (6 * k) out ++ listed n ++ drop (6 * k + 6) out
 abbrev pub four_put : List ℕ → ℕ → (a b c d : Numbers) → List ℕ
 four_put out k a b c d = put_of (put_of (put_of (put_of out k a) (k + 1) b) (k + 2) c) (k + 3) d
 
-abbrev pub four_found : (ℕ → Looked) → List ℕ → ℕ → Keys → List ℕ
+abbrev pub four_found : (ℕ → Looked) → List ℕ → ℕ → Four ℕ → List ℕ
 four_found look out k x = four_put out k (numbers_of (look x.a)) (numbers_of (look x.b)) (numbers_of (look x.c)) (numbers_of (look x.d))
-
--- where the first answers up to one stand in a list, they stand up to another
-abbrev pub GoesOn : (ℕ → Looked) → List ℕ → List ℕ → ℕ → List ℕ → ℕ → Type 0
-GoesOn look xs old from new to = (first : List ℕ) → old ≡ standing look xs first from → length first ≡ length old → new ≡ standing look xs first to

@@ -5,12 +5,13 @@ ghost use Rattle.std.specs.Prelude.{◌≡◌, ◌+◌, ◌*◌, ◌≤◌, leng
 ghost use Rattle.raw.specs.Checked.{good};
 ghost use Rattle.raw.specs.Raw.{parse_of};
 ghost use Rattle.lookup.specs.Lookup.{lookup_on, looked_told, probes_of};
-ghost use Rattle.batch.specs.Batch.{numbers_of, standing, fewer_of, batch, batch_of, put_of, GoesOn};
+ghost use Rattle.batch.specs.Batch.{numbers, numbers_of, standing, batch, batch_of, put_of};
 
 use four::answer_four;
 use lookup::Found;
-use raw::{Lists, Parsed};
-use search::Keys;
+use pages::Opened;
+use raw::Section;
+use search::four::Four;
 
 mod four;
 mod pages;
@@ -27,12 +28,27 @@ pub(crate) struct Numbers {
     pub told: u32,
 }
 
+// The numbers of an answer with no function.
+fn only(told: u32) -> Numbers
+    ensures { result ≡ numbers 0 0 0 0 0 told }
+{
+    Numbers {
+        start: 0,
+        end: 0,
+        opcode: 0,
+        page: 0,
+        index: 0,
+        told,
+    }
+}
+
 pub(crate) fn flat(found: Found) -> Numbers
     requires { probes_of (looked_told found) ≤ 128 }
     ensures { result ≡ numbers_of (looked_told found) }
 {
-    match found {
-        Found::Function { function, probes } => {
+    let probes = 256 * found.probes;
+    match found.function {
+        Ok(Some(function)) => {
             let origin = function.origin;
             Numbers {
                 start: function.start_address,
@@ -40,28 +56,15 @@ pub(crate) fn flat(found: Found) -> Numbers
                 opcode: function.opcode,
                 page: function.page,
                 index: function.index,
-                told: origin.number() as u32 + 256 * probes + 65536,
+                told: u32::from(origin.number()) + probes + 65536,
             }
         }
-        Found::Nothing { probes } => Numbers {
-            start: 0,
-            end: 0,
-            opcode: 0,
-            page: 0,
-            index: 0,
-            told: 256 * probes,
-        },
-        Found::Refused { error, probes } => Numbers {
-            start: 0,
-            end: 0,
-            opcode: 0,
-            page: 0,
-            index: 0,
-            told: 256 * probes + 131072 + 16777216 * error.number() as u32,
-        },
+        Ok(None) => only(probes),
+        Err(error) => only(probes + 131072 + 16777216 * u32::from(error.number())),
     }
 }
 
+// For speed each number is written by itself: in an array, copied, they went through memory first.
 pub(crate) fn put(out: &mut [u32], k: usize, n: Numbers)
     requires { 6 * k + 6 ≤ length out.old }
     ensures { out.new ≡ put_of out.old k n }
@@ -76,52 +79,26 @@ pub(crate) fn put(out: &mut [u32], k: usize, n: Numbers)
 }
 
 // The answers four by four, as long as there are four; how many they are.
-fn by_fours(s: &[u8], lists: Lists, addresses: &[u32], n: usize, out: &mut [u32]) -> usize
-    requires { (parse_of s.now ≡ good lists) × (n ≤ length addresses.now) × (6 * n ≤ length out.old) }
-    ensures { (result ≤ n) × (out.new ≡ standing (lookup_on s.now) addresses.now out.old result) }
+fn by_fours(section: Section, addresses: &[u32], out: &mut [u32]) -> usize
+    requires { (parse_of section.bytes.now ≡ good section.lists) × (6 * length addresses.now ≤ length out.old) }
+    ensures { (result ≤ length addresses.now) × (out.new ≡ standing (lookup_on section.entry.bytes.now) addresses.now out.old result) }
 {
-    let globals = raw::global_opcodes(s, lists);
-    let pages = raw::pages(s, lists);
-    let mut k: usize = 0;
-    while n - k >= 4 {
-        let x = Keys {
-            a: addresses[k],
-            b: addresses[k + 1],
-            c: addresses[k + 2],
-            d: addresses[k + 3],
-        };
-        answer_four(s, lists, globals, pages, x, out, k);
-        k += 4;
+    let opened = Opened::new(section);
+    let (fours, _) = addresses.as_chunks::<4>();
+    for (i, &[a, b, c, d]) in fours.iter().enumerate() {
+        answer_four(opened, Four { a, b, c, d }, out, 4 * i);
     }
-    k
-}
-
-// The answers from the k-th on.
-fn one_by_one(s: &[u8], addresses: &[u32], from: usize, n: usize, out: &mut [u32])
-    requires { (from ≤ n) × (n ≤ length addresses.now) × (6 * n ≤ length out.old) }
-    ensures { GoesOn (lookup_on s.now) addresses.now out.old from out.new n }
-{
-    let mut k = from;
-    while k < n {
-        put(out, k, flat(lookup::lookup(s, addresses[k])));
-        k += 1;
-    }
-}
-
-fn fewer(a: usize, b: usize) -> usize
-    ensures { result ≡ fewer_of a b }
-{
-    if a <= b { a } else { b }
+    4 * fours.len()
 }
 
 // Whole fours of answers, if the section parses; how many answers they are.
-fn whole_fours(s: &[u8], addresses: &[u32], n: usize, out: &mut [u32]) -> usize
-    requires { (n ≤ length addresses.now) × (6 * n ≤ length out.old) }
-    ensures { (result ≤ n) × (out.new ≡ standing (lookup_on s.now) addresses.now out.old result) }
+fn whole_fours(s: &[u8], addresses: &[u32], out: &mut [u32]) -> usize
+    requires { 6 * length addresses.now ≤ length out.old }
+    ensures { (result ≤ length addresses.now) × (out.new ≡ standing (lookup_on s.now) addresses.now out.old result) }
 {
-    match raw::parse(s) {
-        Parsed::Whole(lists) => by_fours(s, lists, addresses, n, out),
-        Parsed::Refused(_) => 0,
+    match Section::parse(s) {
+        Ok(section) => by_fours(section, addresses, out),
+        Err(_) => 0,
     }
 }
 
@@ -129,8 +106,10 @@ fn whole_fours(s: &[u8], addresses: &[u32], n: usize, out: &mut [u32]) -> usize
 pub fn lookup_batch(s: &[u8], addresses: &[u32], out: &mut [u32]) -> usize
     ensures { batch result out.new ≡ batch_of s.now addresses.now out.old }
 {
-    let n = fewer(addresses.len(), out.len() / 6);
-    let k = whole_fours(s, addresses, n, out);
-    one_by_one(s, addresses, k, n, out);
+    let n = addresses.len().min(out.len() / 6);
+    let asked = &addresses[..n];
+    for k in whole_fours(s, asked, out)..n {
+        put(out, k, flat(lookup::lookup(s, asked[k])));
+    }
     n
 }

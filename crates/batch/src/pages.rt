@@ -1,138 +1,129 @@
 // The page of an address, before its functions are searched side by side with those of three others.
-ghost use Rattle.std.specs.Prelude.{◌≡◌, true, ◌≤◌, ◌<◌};
-ghost use Rattle.raw.specs.declared.Kind.{Kind};
-ghost use Rattle.raw.specs.Raw.{pages_of};
-ghost use Rattle.batch.specs.Pages.{ReadAs, PageOf};
+ghost use Rattle.std.specs.Prelude.{◌≡◌, ◌≤◌, ⊤, MatchOption};
+ghost use Rattle.raw.specs.Raw.{globals_of, pages_of};
 
-use entries::Place;
-use raw::{Kind, Lists, Opened, Page};
-use search::Spot;
+use entries::{PageAt, Place};
+use raw::{Kind, Section};
+use search::four::Four;
+use search::{CompressedEntry, Entry, RegularEntry, Spot};
 
-// The page of an address, and the probes of its search. Where there is none it has no functions.
+// A page's kind that the compiler knows, by the layout of its functions: so it knows it in the search and in each read.
+pub(crate) trait PageKind: Entry {
+    ghost use Rattle.std.specs.Prelude.{◌≡◌};
+    ghost use Rattle.raw.specs.declared.Kind.{Kind};
+    ghost use Rattle.raw.specs.Raw.{layout};
+
+    ghost KIND: { Kind };
+
+    const KIND: Kind;
+
+    ghost laid: { layout KIND ≡ Self.layout };
+}
+
+impl PageKind for RegularEntry {
+    ghost use Rattle.std.specs.Prelude.{refl};
+    ghost use Rattle.raw.specs.declared.Kind.{Kind};
+
+    ghost KIND = { Kind.Regular };
+
+    const KIND: Kind = Kind::Regular;
+
+    ghost laid = { refl };
+}
+
+impl PageKind for CompressedEntry {
+    ghost use Rattle.std.specs.Prelude.{refl};
+    ghost use Rattle.raw.specs.declared.Kind.{Kind};
+
+    ghost KIND = { Kind.Compressed };
+
+    const KIND: Kind = Kind::Compressed;
+
+    ghost laid = { refl };
+}
+
+// The page of an address, and the probes of its search.
 #[derive(Clone, Copy)]
 pub(crate) struct PageFound {
     pub place: Place,
     pub probes: u32,
 }
 
-// The pages of four addresses.
+// A section with its lists, cut out once for all addresses.
 #[derive(Clone, Copy)]
-pub(crate) struct Pages {
-    pub a: PageFound,
-    pub b: PageFound,
-    pub c: PageFound,
-    pub d: PageFound,
+pub(crate) struct Opened<'a> {
+    pub section: Section<'a>,
+    pub globals: &'a [u8],
+    pub pages: &'a [u8],
+    pub ghost globals_are: { globals.now ≡ globals_of section.bytes.now section.lists },
+    pub ghost pages_are: { pages.now ≡ pages_of section.bytes.now section.lists },
 }
 
-fn no_page(kind: Kind) -> PageFound
-    ensures { result.place.page.functions_len ≡ 0 }
-{
-    PageFound {
-        place: Place {
-            index: 0,
-            offset: 0,
-            next: 0,
-            page: Page {
-                kind,
-                base: 0,
-                functions_offset: 0,
-                functions_len: 0,
-                local_opcodes_offset: 0,
-                local_opcodes_len: 0,
-            },
-        },
-        probes: 0,
-    }
-}
+impl<'a> Opened<'a> {
+    ghost use Rattle.batch.specs.Pages.{PageOf, PagesOf};
 
-// The page there, if it is of the one kind or of the other. Each is written out for speed: so the compiler knows the kind.
-fn compressed_page(
-    s: &[u8],
-    index: u32,
-    offset: u32,
-    first: u32,
-    next: u32,
-    probes: u32,
-) -> PageFound
-    ensures { ReadAs s.now index offset first next probes Kind.Compressed result }
-{
-    let Opened::Page(page) = raw::read_page(s, offset, first) else {
-        return no_page(Kind::Compressed);
-    };
-    let place = Place {
-        index,
-        offset,
-        next,
-        page,
-    };
-    let kind = page.kind;
-    match kind {
-        Kind::Compressed => PageFound { place, probes },
-        Kind::Regular => no_page(Kind::Compressed),
+    pub fn new(section: Section<'a>) -> Opened<'a>
+        ensures { (result.section.bytes.now ≡ section.entry.bytes.now) × (result.section.lists ≡ section.entry.lists) }
+    {
+        Opened {
+            section,
+            globals: section.global_opcodes(),
+            pages: section.pages(),
+        }
     }
-}
 
-fn regular_page(s: &[u8], index: u32, offset: u32, first: u32, next: u32, probes: u32) -> PageFound
-    ensures { ReadAs s.now index offset first next probes Kind.Regular result }
-{
-    let Opened::Page(page) = raw::read_page(s, offset, first) else {
-        return no_page(Kind::Regular);
-    };
-    let place = Place {
-        index,
-        offset,
-        next,
-        page,
-    };
-    let kind = page.kind;
-    match kind {
-        Kind::Regular => PageFound { place, probes },
-        Kind::Compressed => no_page(Kind::Regular),
+    // A page in the section.
+    pub fn at(self, place: Place) -> PageAt<'a>
+        ensures { (result.section.now ≡ self.entry.section.bytes.now) × (result.globals.now ≡ self.entry.globals.now) × (result.place ≡ place) }
+    {
+        PageAt {
+            section: self.section.bytes,
+            globals: self.globals,
+            place,
+        }
     }
-}
 
-fn page_of(
-    s: &[u8],
-    kind: Kind,
-    index: u32,
-    offset: u32,
-    first: u32,
-    next: u32,
-    probes: u32,
-) -> PageFound
-    ensures { ReadAs s.now index offset first next probes kind result }
-{
-    match kind {
-        Kind::Compressed => compressed_page(s, index, offset, first, next, probes),
-        Kind::Regular => regular_page(s, index, offset, first, next, probes),
+    // The page where the search of pages ended, if it is of the kind and its local opcodes are there. No answer needs these: for speed they are
+    // asked for once, so that no read asks again.
+    #[inline(always)]
+    fn page<K: PageKind>(self, spot: Spot) -> Option<PageFound>
+        requires { spot.at ≤ self.section.lists.pages_len }
+        ensures { MatchOption result ⊤ (λ m. PageOf self.entry.section.bytes.now self.entry.section.lists spot K.KIND m) }
+    {
+        let at = spot.at;
+        if at == 0 || at == self.section.lists.pages_len as usize {
+            return None;
+        }
+        let index = (at - 1) as u32;
+        let e = raw::page_entry(self.pages, index);
+        let Ok(page) = raw::read_page(self.section.bytes, e.offset, e.first) else {
+            return None;
+        };
+        let place = Place {
+            index,
+            offset: e.offset,
+            next: e.next,
+            page,
+        };
+        if page.kind != K::KIND || !self.at(place).has_local_opcodes() {
+            return None;
+        }
+        Some(PageFound {
+            place,
+            probes: spot.probes,
+        })
     }
-}
 
-// The page of the kind where the search of pages ended.
-pub(crate) fn page_at(s: &[u8], lists: Lists, pages: &[u8], kind: Kind, spot: Spot) -> PageFound
-    requires { (pages.now ≡ pages_of s.now lists) × (spot.at ≤ lists.pages_len) }
-    ensures { 0 < result.place.page.functions_len → PageOf s.now lists spot kind result }
-{
-    let n = lists.pages_len;
-    let at = spot.at;
-    if at == 0 {
-        return no_page(kind);
+    // The four pages, if each is such a one.
+    pub(crate) fn four<K: PageKind>(self, spots: Four<Spot>) -> Option<Four<PageFound>>
+        requires { (spots.a.at ≤ self.section.lists.pages_len) × (spots.b.at ≤ self.section.lists.pages_len) × (spots.c.at ≤ self.section.lists.pages_len) × (spots.d.at ≤ self.section.lists.pages_len) }
+        ensures { MatchOption result ⊤ (λ m. PagesOf self.entry.section.bytes.now self.entry.section.lists spots K.KIND m) }
+    {
+        Some(Four {
+            a: self.page::<K>(spots.a)?,
+            b: self.page::<K>(spots.b)?,
+            c: self.page::<K>(spots.c)?,
+            d: self.page::<K>(spots.d)?,
+        })
     }
-    if at == n as usize {
-        return no_page(kind);
-    }
-    let p = (at - 1) as u32;
-    let e = raw::page_entry(pages, p);
-    page_of(s, kind, p, e.offset, e.first, e.next, spot.probes)
-}
-
-// Whether a page goes along with three others: it has functions. For speed its local opcodes are asked for once, so that no read asks again.
-pub(crate) fn goes_along(s: &[u8], q: Place) -> bool
-    ensures { result ≡ true → 0 < q.page.functions_len }
-{
-    let pg = q.page;
-    if pg.functions_len == 0 {
-        return false;
-    }
-    entries::has_locals(s, q)
 }

@@ -5,7 +5,7 @@ use Prim.Native.Nat.{ℕ}
 use mathlib.Core.Path.{◌≡◌, refl}
 use mathlib.Core.Bool.{true, false}
 use mathlib.Core.List.{List, [], ◌∷◌, map}
-use Rattle.reader.specs.Reader as reader
+use Rattle.std.specs.Prelude.{Some, None}
 use Rattle.raw.specs.Checked.{good, refused}
 use Rattle.entries.specs.declared.Origin.{Origin}
 use Rattle.entries.specs.declared.Function.{Function}
@@ -107,8 +107,8 @@ on-arm64 a v n ps = word-arm64 (record { value = v; answer = a; saved_reg_pair_c
 
 abbrev pub rows : List (Flat × Flat)
 rows =
-    (read (read_answer (reader.value 0x11)), read (record { granted = 1; value = 0x11 }))
-    ∷ (read (read_answer reader.outside), read (record { granted = 0; value = 0 }))
+    (read (read_answer (Some 0x11)), read (record { granted = 1; value = 0x11 }))
+    ∷ (read (read_answer None), read (record { granted = 0; value = 0 }))
     ∷ (permutation (permutation_answer (permuted.accepted saved)), permutation (record { refusal = 0; registers = saved }))
     ∷ (permutation (permutation_answer (permuted.Told.refused 23 saved)), permutation (record { refusal = 23; registers = saved }))
     ∷ (encoding (encoding_answer (permuted.encoding 0x11)), encoding (record { refusal = 0; encoding = 0x11 }))

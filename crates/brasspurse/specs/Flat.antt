@@ -1,8 +1,7 @@
 -- What the definitions of docs/FORMAT.md, 1.2, 7 and 8, tell, as the flat structs of include/brasspurse.h: the case as a number, then the case's
 -- values, 0 where it has none. (Words are told in numbers by `opcodes`.)
 -- Assumes nothing.
-use Rattle.std.specs.Prelude.{ℕ, zero, suc, pred, ◌+◌, ◌*◌, ◌/◌, ◌%◌, get_or}
-use Rattle.reader.specs.Reader as reader
+use Rattle.std.specs.Prelude.{ℕ, zero, suc, pred, ◌+◌, ◌*◌, ◌/◌, ◌%◌, get_or, Option, Some, None}
 use Rattle.permutation.specs.Permutation as permutation
 use Rattle.opcodes.specs.Registers as registers
 use Rattle.opcodes.specs.declared.words_x86_64.WordX86_64.{WordX86_64}
@@ -12,9 +11,9 @@ use Rattle.brasspurse.specs.declared.permutations.EncodingAnswer.{EncodingAnswer
 use Rattle.brasspurse.specs.declared.words.RegisterAnswer.{RegisterAnswer}
 use Rattle.brasspurse.specs.declared.words.OpcodeX86_64Answer.{OpcodeX86_64Answer}
 
-abbrev pub read_answer : reader.Told → ReadAnswer
-read_answer (reader.value x) = record { granted = 1; value = x }
-read_answer reader.outside = record { granted = 0; value = 0 }
+abbrev pub read_answer : Option ℕ → ReadAnswer
+read_answer (Some x) = record { granted = 1; value = x }
+read_answer None = record { granted = 0; value = 0 }
 
 unfoldable pub permutation_answer : permutation.Told → PermutationAnswer
 permutation_answer (permutation.accepted rs) = record { refusal = 0; registers = rs }

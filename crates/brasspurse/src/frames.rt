@@ -4,17 +4,16 @@ ghost use Rattle.rules.specs.RulesX86 as rules_x86;
 ghost use Rattle.rules.specs.RulesArm64 as rules_arm64;
 ghost use Rattle.step.specs.StepsX86 as steps_x86;
 ghost use Rattle.step.specs.StepsArm64 as steps_arm64;
-ghost use Rattle.brasspurse.specs.Frames.{register_number, rule_x86_answer, rule_arm64_answer, step_x86_answer, step_arm64_answer};
+ghost use Rattle.brasspurse.specs.Frames.{rule_x86_answer, rule_arm64_answer, step_x86_answer, step_arm64_answer};
 
-use rules::CfaRegister;
-use rules::arm64::RuleArm64;
-use rules::x86_64::RuleX86_64;
+use rules::{Refusal, RuleArm64, RuleX86_64};
+use step::Registers;
 use step::arm64::RegistersArm64;
 use step::x86_64::RegistersX86_64;
 
 // refusal is 0, or 20 to 25 with value DWARF's 24 bits for 21, the kind for 22, and every other number 0. cfa_register is 0 for rsp, 1 for rbp.
 #[repr(C)]
-#[derive(Clone, Copy)]
+#[derive(Clone, Copy, Debug, PartialEq, Eq)]
 pub struct RuleX86_64Answer {
     pub refusal: u32,
     pub value: u32,
@@ -25,7 +24,7 @@ pub struct RuleX86_64Answer {
 
 // The same with 20 to 22 alone; cfa_register is 0 for sp, 1 for x29.
 #[repr(C)]
-#[derive(Clone, Copy)]
+#[derive(Clone, Copy, Debug, PartialEq, Eq)]
 pub struct RuleArm64Answer {
     pub refusal: u32,
     pub value: u32,
@@ -36,7 +35,7 @@ pub struct RuleArm64Answer {
 
 // refusal is 0, or 20 to 27 with the registers as they were, on arm64 without 23 to 25; value as in a rule.
 #[repr(C)]
-#[derive(Clone, Copy)]
+#[derive(Clone, Copy, Debug, PartialEq, Eq)]
 pub struct StepX86_64Answer {
     pub refusal: u32,
     pub value: u32,
@@ -44,52 +43,75 @@ pub struct StepX86_64Answer {
 }
 
 #[repr(C)]
-#[derive(Clone, Copy)]
+#[derive(Clone, Copy, Debug, PartialEq, Eq)]
 pub struct StepArm64Answer {
     pub refusal: u32,
     pub value: u32,
     pub registers: RegistersArm64,
 }
 
-fn register_number(register: CfaRegister) -> u32
-    ensures { result ≡ register_number register }
-{
-    match register {
-        CfaRegister::StackPointer => 0,
-        CfaRegister::FramePointer => 1,
+impl From<Result<RuleX86_64, Refusal>> for RuleX86_64Answer {
+    ghost from_gives = { λ rule answer. answer ≡ rule_x86_answer (rules_x86.rule_told rule) };
+
+    fn from(rule: Result<RuleX86_64, Refusal>) -> RuleX86_64Answer {
+        match rule {
+            Ok(rule) => {
+                let below = rule.below;
+                RuleX86_64Answer {
+                    refusal: 0,
+                    value: 0,
+                    cfa_distance: rule.cfa_distance,
+                    cfa_register: rule.cfa_register as u32,
+                    below,
+                }
+            }
+            Err(refusal) => RuleX86_64Answer {
+                refusal: u32::from(refusal.number()),
+                value: refusal.value(),
+                cfa_distance: 0,
+                cfa_register: 0,
+                below: [0; 6],
+            },
+        }
+    }
+}
+
+impl From<Result<RuleArm64, Refusal>> for RuleArm64Answer {
+    ghost from_gives = { λ rule answer. answer ≡ rule_arm64_answer (rules_arm64.rule_told rule) };
+
+    fn from(rule: Result<RuleArm64, Refusal>) -> RuleArm64Answer {
+        match rule {
+            Ok(rule) => {
+                let below = rule.below;
+                RuleArm64Answer {
+                    refusal: 0,
+                    value: 0,
+                    cfa_distance: rule.cfa_distance,
+                    cfa_register: rule.cfa_register as u32,
+                    below,
+                }
+            }
+            Err(refusal) => RuleArm64Answer {
+                refusal: u32::from(refusal.number()),
+                value: refusal.value(),
+                cfa_distance: 0,
+                cfa_register: 0,
+                below: [0; 20],
+            },
+        }
     }
 }
 
 pub fn brasspurse_rule_x86_64(opcode: u32) -> RuleX86_64Answer
     ensures { result ≡ rule_x86_answer (rules_x86.rule_of opcode) }
 {
-    let rule = RuleX86_64::parse(opcode);
-    let outcome = rule.outcome;
-    let cfa_register = rule.cfa_register;
-    let below = rule.below;
-    RuleX86_64Answer {
-        refusal: outcome.number() as u32,
-        value: outcome.value(),
-        cfa_distance: rule.cfa_distance,
-        cfa_register: register_number(cfa_register),
-        below,
-    }
+    RuleX86_64::parse(opcode).into()
 }
 
 pub fn brasspurse_rule_arm64(opcode: u32) -> RuleArm64Answer
     ensures { result ≡ rule_arm64_answer (rules_arm64.rule_of opcode) }
 {
-    let rule = RuleArm64::parse(opcode);
-    let outcome = rule.outcome;
-    let cfa_register = rule.cfa_register;
-    let below = rule.below;
-    RuleArm64Answer {
-        refusal: outcome.number() as u32,
-        value: outcome.value(),
-        cfa_distance: rule.cfa_distance,
-        cfa_register: register_number(cfa_register),
-        below,
-    }
+    RuleArm64::parse(opcode).into()
 }
 
 pub fn brasspurse_step_x86_64(
@@ -100,12 +122,11 @@ pub fn brasspurse_step_x86_64(
 ) -> StepX86_64Answer
     ensures { result ≡ step_x86_answer (steps_x86.step_of opcode base window.now (steps_x86.regs_told registers)) }
 {
-    let stepped = step::x86_64::step(opcode, registers, base, window);
-    let outcome = stepped.outcome;
-    let after = stepped.registers;
+    let mut after = registers;
+    let stepped = after.step(opcode, base, window);
     StepX86_64Answer {
-        refusal: outcome.number() as u32,
-        value: outcome.value(),
+        refusal: u32::from(rules::number_of(&stepped)),
+        value: rules::value_of(&stepped),
         registers: after,
     }
 }
@@ -118,12 +139,11 @@ pub fn brasspurse_step_arm64(
 ) -> StepArm64Answer
     ensures { result ≡ step_arm64_answer (steps_arm64.step_of opcode base window.now (steps_arm64.regs_told registers)) }
 {
-    let stepped = step::arm64::step(opcode, registers, base, window);
-    let outcome = stepped.outcome;
-    let after = stepped.registers;
+    let mut after = registers;
+    let stepped = after.step(opcode, base, window);
     StepArm64Answer {
-        refusal: outcome.number() as u32,
-        value: outcome.value(),
+        refusal: u32::from(rules::number_of(&stepped)),
+        value: rules::value_of(&stepped),
         registers: after,
     }
 }

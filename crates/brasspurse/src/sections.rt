@@ -1,22 +1,23 @@
 // Sections. The calls that end in `_in` take the places of the two lists, which anyone may name: they are granted anew.
 ghost use Rattle.std.specs.Prelude.{◌≡◌, ◌<◌};
-ghost use Rattle.raw.specs.Raw.{parse_of, lists_told};
+ghost use Rattle.raw.specs.Checked.{told};
+ghost use Rattle.raw.specs.Raw.{parse_of};
 ghost use Rattle.iterate.specs.Iterate.{next_on, next_in, next_told};
-ghost use Rattle.iterate.specs.Range.{range_on, range_in, range_told};
+ghost use Rattle.iterate.specs.Range.{range_on, range_in};
 ghost use Rattle.lookup.specs.Lookup.{lookup_on, lookup_in, looked_told, probes_of};
 ghost use Rattle.batch.specs.Batch.{batch, batch_of};
-ghost use Rattle.fill.specs.Fill.{fill_on, fill_in, filled_told};
+ghost use Rattle.fill.specs.Fill.{fill_on, fill_in};
 ghost use Rattle.well_formed.specs.WellFormed.{well_formed};
 ghost use Rattle.brasspurse.specs.Sections.{parse_answer, range_answer, lookup_answer, next_answer, fill_answer, flat_filled, filled_outcome};
 
 use fill::{Filled, Stop};
-use iterate::{Cursor, Next, Ranged};
+use iterate::{Cursor, Next, Range};
 use lookup::Found;
-use raw::{Lists, Parsed};
+use raw::{Error, Lists};
 
 // refusal is 0, or 1, 15, 2 or 3 with every other number 0.
 #[repr(C)]
-#[derive(Clone, Copy)]
+#[derive(Clone, Copy, Debug, Default, PartialEq, Eq)]
 pub struct ParseAnswer {
     pub refusal: u32,
     pub global_opcodes_offset: u32,
@@ -26,7 +27,7 @@ pub struct ParseAnswer {
 }
 
 #[repr(C)]
-#[derive(Clone, Copy)]
+#[derive(Clone, Copy, Debug, Default, PartialEq, Eq)]
 pub struct RangeAnswer {
     pub refusal: u32,
     pub start: u32,
@@ -35,7 +36,7 @@ pub struct RangeAnswer {
 
 // outcome is 0 for none, 1 for a function, 2 for a refusal with its number; page and index are the function's, and a cursor.
 #[repr(C)]
-#[derive(Clone, Copy)]
+#[derive(Clone, Copy, Debug, Default, PartialEq, Eq)]
 pub struct LookupAnswer {
     pub start: u32,
     pub end: u32,
@@ -50,7 +51,7 @@ pub struct LookupAnswer {
 
 // outcome is 0 for the end, 1 for a function, 2 for a refusal with its number; page and index are the cursor for the next call.
 #[repr(C)]
-#[derive(Clone, Copy)]
+#[derive(Clone, Copy, Debug, Default, PartialEq, Eq)]
 pub struct NextAnswer {
     pub start: u32,
     pub end: u32,
@@ -66,7 +67,7 @@ pub struct NextAnswer {
 
 // outcome is 0 for the end, 1 where the list is full, 2 for a refusal with its number; 1, 15, 2 and 3 are refused whatever the room.
 #[repr(C)]
-#[derive(Clone, Copy)]
+#[derive(Clone, Copy, Debug, Default, PartialEq, Eq)]
 pub struct FillAnswer {
     pub functions: usize,
     pub page: u32,
@@ -75,98 +76,139 @@ pub struct FillAnswer {
     pub refusal: u16,
 }
 
-pub fn brasspurse_parse(section: &[u8]) -> ParseAnswer
-    ensures { result ≡ parse_answer (parse_of section.now) }
+impl From<Result<Lists, Error>> for ParseAnswer {
+    ghost from_gives = { λ parsed answer. answer ≡ parse_answer (told parsed) };
+
+    fn from(parsed: Result<Lists, Error>) -> ParseAnswer {
+        match parsed {
+            Ok(lists) => ParseAnswer {
+                refusal: 0,
+                global_opcodes_offset: lists.global_opcodes_offset,
+                global_opcodes_len: lists.global_opcodes_len,
+                pages_offset: lists.pages_offset,
+                pages_len: lists.pages_len,
+            },
+            Err(error) => ParseAnswer {
+                refusal: u32::from(error.number()),
+                ..ParseAnswer::default()
+            },
+        }
+    }
+}
+
+impl From<Result<Range, Error>> for RangeAnswer {
+    ghost from_gives = { λ range answer. answer ≡ range_answer (told range) };
+
+    fn from(range: Result<Range, Error>) -> RangeAnswer {
+        match range {
+            Ok(range) => RangeAnswer {
+                refusal: 0,
+                start: range.start,
+                end: range.end,
+            },
+            Err(error) => RangeAnswer {
+                refusal: u32::from(error.number()),
+                ..RangeAnswer::default()
+            },
+        }
+    }
+}
+
+impl From<Next> for NextAnswer {
+    ghost from_gives = { λ next answer. answer ≡ next_answer (next_told next) };
+
+    fn from(answer: Next) -> NextAnswer {
+        let next = answer.next;
+        let none = NextAnswer {
+            page: next.page,
+            index: next.index,
+            ..NextAnswer::default()
+        };
+        match answer.function {
+            Ok(None) => none,
+            Ok(Some(function)) => NextAnswer {
+                start: function.start_address,
+                end: function.end_address,
+                opcode: function.opcode,
+                function_page: function.page,
+                function_index: function.index,
+                origin: function.origin.number(),
+                outcome: 1,
+                ..none
+            },
+            Err(error) => NextAnswer {
+                outcome: 2,
+                refusal: error.number(),
+                ..none
+            },
+        }
+    }
+}
+
+impl From<Filled> for FillAnswer {
+    ghost from_gives = { λ filled answer. answer ≡ flat_filled filled };
+
+    fn from(filled: Filled) -> FillAnswer {
+        let (outcome, refusal) = match filled.stop {
+            Stop::End => (0, 0),
+            Stop::Full => (1, 0),
+            Stop::Refused(error) => (2, u16::from(error.number())),
+        };
+        FillAnswer {
+            functions: filled.functions,
+            page: filled.next.page,
+            index: filled.next.index,
+            outcome,
+            refusal,
+        }
+    }
+}
+
+// No `From`, which could not ask that the probes fit into a byte.
+fn flat_lookup(found: Found) -> LookupAnswer
+    requires { probes_of (looked_told found) < 256 }
+    ensures { result ≡ lookup_answer (looked_told found) }
 {
-    match raw::parse(section) {
-        Parsed::Whole(lists) => ParseAnswer {
-            refusal: 0,
-            global_opcodes_offset: lists.global_opcodes_offset,
-            global_opcodes_len: lists.global_opcodes_len,
-            pages_offset: lists.pages_offset,
-            pages_len: lists.pages_len,
+    let none = LookupAnswer {
+        probes: found.probes as u8,
+        ..LookupAnswer::default()
+    };
+    match found.function {
+        Ok(None) => none,
+        Ok(Some(function)) => LookupAnswer {
+            start: function.start_address,
+            end: function.end_address,
+            opcode: function.opcode,
+            page: function.page,
+            index: function.index,
+            origin: function.origin.number(),
+            outcome: 1,
+            ..none
         },
-        Parsed::Refused(error) => ParseAnswer {
-            refusal: error.number() as u32,
-            global_opcodes_offset: 0,
-            global_opcodes_len: 0,
-            pages_offset: 0,
-            pages_len: 0,
+        Err(error) => LookupAnswer {
+            outcome: 2,
+            refusal: error.number(),
+            ..none
         },
     }
 }
 
-fn flat_range(range: Ranged) -> RangeAnswer
-    ensures { result ≡ range_answer (range_told range) }
+pub fn brasspurse_parse(section: &[u8]) -> ParseAnswer
+    ensures { result ≡ parse_answer (parse_of section.now) }
 {
-    match range {
-        Ranged::Range(range) => RangeAnswer {
-            refusal: 0,
-            start: range.start,
-            end: range.end,
-        },
-        Ranged::Refused(error) => RangeAnswer {
-            refusal: error.number() as u32,
-            start: 0,
-            end: 0,
-        },
-    }
+    raw::parse(section).into()
 }
 
 pub fn brasspurse_address_range(section: &[u8]) -> RangeAnswer
     ensures { result ≡ range_answer (range_on section.now) }
 {
-    flat_range(iterate::address_range(section))
+    iterate::address_range(section).into()
 }
 
 pub fn brasspurse_address_range_in(section: &[u8], lists: Lists) -> RangeAnswer
     ensures { result ≡ range_answer (range_in section.now lists) }
 {
-    flat_range(iterate::address_range_in(section, lists))
-}
-
-fn flat_lookup(found: Found) -> LookupAnswer
-    requires { probes_of (looked_told found) < 256 }
-    ensures { result ≡ lookup_answer (looked_told found) }
-{
-    match found {
-        Found::Nothing { probes } => LookupAnswer {
-            start: 0,
-            end: 0,
-            opcode: 0,
-            page: 0,
-            index: 0,
-            origin: 0,
-            probes: probes as u8,
-            outcome: 0,
-            refusal: 0,
-        },
-        Found::Function { function, probes } => {
-            let origin = function.origin;
-            LookupAnswer {
-                start: function.start_address,
-                end: function.end_address,
-                opcode: function.opcode,
-                page: function.page,
-                index: function.index,
-                origin: origin.number(),
-                probes: probes as u8,
-                outcome: 1,
-                refusal: 0,
-            }
-        }
-        Found::Refused { error, probes } => LookupAnswer {
-            start: 0,
-            end: 0,
-            opcode: 0,
-            page: 0,
-            index: 0,
-            origin: 0,
-            probes: probes as u8,
-            outcome: 2,
-            refusal: error.number(),
-        },
-    }
+    iterate::address_range_in(section, lists).into()
 }
 
 pub fn brasspurse_lookup(section: &[u8], address: u32) -> LookupAnswer
@@ -189,101 +231,22 @@ pub fn brasspurse_lookup_batch(section: &[u8], addresses: &[u32], answers: &mut 
     batch::lookup_batch(section, addresses, answers)
 }
 
-fn flat_next(next: Next) -> NextAnswer
-    ensures { result ≡ next_answer (next_told next) }
-{
-    match next {
-        Next::End { next } => NextAnswer {
-            start: 0,
-            end: 0,
-            opcode: 0,
-            page: next.page,
-            index: next.index,
-            function_page: 0,
-            function_index: 0,
-            origin: 0,
-            outcome: 0,
-            refusal: 0,
-        },
-        Next::Function { next, function } => {
-            let origin = function.origin;
-            NextAnswer {
-                start: function.start_address,
-                end: function.end_address,
-                opcode: function.opcode,
-                page: next.page,
-                index: next.index,
-                function_page: function.page,
-                function_index: function.index,
-                origin: origin.number(),
-                outcome: 1,
-                refusal: 0,
-            }
-        }
-        Next::Refused { error, next } => NextAnswer {
-            start: 0,
-            end: 0,
-            opcode: 0,
-            page: next.page,
-            index: next.index,
-            function_page: 0,
-            function_index: 0,
-            origin: 0,
-            outcome: 2,
-            refusal: error.number(),
-        },
-    }
-}
-
 pub fn brasspurse_next(section: &[u8], page: u32, index: u32) -> NextAnswer
     ensures { result ≡ next_answer (next_on section.now (record { page = page; index = index })) }
 {
-    flat_next(iterate::next_function(section, Cursor { page, index }))
+    iterate::next_function(section, Cursor { page, index }).into()
 }
 
 pub fn brasspurse_next_in(section: &[u8], lists: Lists, page: u32, index: u32) -> NextAnswer
     ensures { result ≡ next_answer (next_in section.now lists (record { page = page; index = index })) }
 {
-    flat_next(iterate::next_function_in(section, lists, Cursor { page, index }))
-}
-
-fn flat_fill(filled: Filled) -> FillAnswer
-    ensures { result ≡ flat_filled filled }
-{
-    let functions = filled.functions;
-    let page = filled.next.page;
-    let index = filled.next.index;
-    let stop = filled.stop;
-    match stop {
-        Stop::End => FillAnswer {
-            functions,
-            page,
-            index,
-            outcome: 0,
-            refusal: 0,
-        },
-        Stop::Full => FillAnswer {
-            functions,
-            page,
-            index,
-            outcome: 1,
-            refusal: 0,
-        },
-        Stop::Refused(error) => FillAnswer {
-            functions,
-            page,
-            index,
-            outcome: 2,
-            refusal: error.number() as u16,
-        },
-    }
+    iterate::next_function_in(section, lists, Cursor { page, index }).into()
 }
 
 pub fn brasspurse_fill(section: &[u8], page: u32, index: u32, out: &mut [u32]) -> FillAnswer
     ensures { filled_outcome result out.new ≡ fill_answer (fill_on section.now (record { page = page; index = index }) out.old) }
 {
-    let filled = fill::fill(section, Cursor { page, index }, out);
-    flat_fill(filled)
+    fill::fill(section, Cursor { page, index }, out).into()
 }
 
 pub fn brasspurse_fill_in(
@@ -295,8 +258,7 @@ pub fn brasspurse_fill_in(
 ) -> FillAnswer
     ensures { filled_outcome result out.new ≡ fill_answer (fill_in section.now lists (record { page = page; index = index }) out.old) }
 {
-    let filled = fill::fill_in(section, lists, Cursor { page, index }, out);
-    flat_fill(filled)
+    fill::fill_in(section, lists, Cursor { page, index }, out).into()
 }
 
 pub fn brasspurse_is_well_formed(section: &[u8]) -> bool

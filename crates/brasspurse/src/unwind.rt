@@ -12,7 +12,7 @@ use step::x86_64::RegistersX86_64;
 // refusal is 0, or the lookup's 1 to 15, or the step's 20 to 27, 20 also where no function is found; then the registers are as they were.
 // value is DWARF's 24 bits for 21, the kind for 22, else 0. probes: the entries that the lookup probed.
 #[repr(C)]
-#[derive(Clone, Copy)]
+#[derive(Clone, Copy, Debug, PartialEq, Eq)]
 pub struct UnwindX86_64Answer {
     pub refusal: u32,
     pub value: u32,
@@ -21,7 +21,7 @@ pub struct UnwindX86_64Answer {
 }
 
 #[repr(C)]
-#[derive(Clone, Copy)]
+#[derive(Clone, Copy, Debug, PartialEq, Eq)]
 pub struct UnwindArm64Answer {
     pub refusal: u32,
     pub value: u32,
@@ -29,6 +29,7 @@ pub struct UnwindArm64Answer {
     pub registers: RegistersArm64,
 }
 
+#[tactic(auto, unfolding(macho_unwind_info::specs::UnwindX86::unwind_of))]
 pub fn brasspurse_unwind_x86_64(
     section: &[u8],
     address: u32,
@@ -38,17 +39,17 @@ pub fn brasspurse_unwind_x86_64(
 ) -> UnwindX86_64Answer
     ensures { result ≡ unwind_x86_answer (unwind_x86.unwind_of section.now address base window.now (steps_x86.regs_told registers)) }
 {
-    let unwound = macho_unwind_info::x86_64::unwind(section, address, registers, base, window);
-    let outcome = unwound.outcome;
-    let after = unwound.registers;
+    let mut after = registers;
+    let unwound = macho_unwind_info::unwind(section, address, &mut after, base, window);
     UnwindX86_64Answer {
-        refusal: outcome.number() as u32,
-        value: outcome.value(),
+        refusal: u32::from(unwound.number()),
+        value: unwound.value(),
         probes: unwound.probes,
         registers: after,
     }
 }
 
+#[tactic(auto, unfolding(macho_unwind_info::specs::UnwindArm64::unwind_of))]
 pub fn brasspurse_unwind_arm64(
     section: &[u8],
     address: u32,
@@ -58,12 +59,11 @@ pub fn brasspurse_unwind_arm64(
 ) -> UnwindArm64Answer
     ensures { result ≡ unwind_arm64_answer (unwind_arm64.unwind_of section.now address base window.now (steps_arm64.regs_told registers)) }
 {
-    let unwound = macho_unwind_info::arm64::unwind(section, address, registers, base, window);
-    let outcome = unwound.outcome;
-    let after = unwound.registers;
+    let mut after = registers;
+    let unwound = macho_unwind_info::unwind(section, address, &mut after, base, window);
     UnwindArm64Answer {
-        refusal: outcome.number() as u32,
-        value: outcome.value(),
+        refusal: u32::from(unwound.number()),
+        value: unwound.value(),
         probes: unwound.probes,
         registers: after,
     }

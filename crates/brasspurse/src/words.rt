@@ -1,7 +1,7 @@
 // Opcode words.
 ghost use Rattle.std.specs.Prelude.{◌≡◌};
 ghost use Rattle.opcodes.specs.Bits.{kind_of, specific_of};
-ghost use Rattle.opcodes.specs.Registers.{named_of};
+ghost use Rattle.opcodes.specs.Registers.{named_of, told};
 ghost use Rattle.opcodes.specs.WordsX86 as x86;
 ghost use Rattle.opcodes.specs.WordsArm64 as arm;
 ghost use Rattle.brasspurse.specs.Flat.{register_answer, states_from, x86_answer};
@@ -13,7 +13,7 @@ use opcodes::x86_64::{Named, RegisterNameX86_64};
 
 // state is 0 absent, 1 a register, 2 unknown.
 #[repr(C)]
-#[derive(Clone, Copy)]
+#[derive(Clone, Copy, Debug, Default, PartialEq, Eq)]
 pub struct RegisterAnswer {
     pub state: u32,
     pub number: u32,
@@ -22,7 +22,7 @@ pub struct RegisterAnswer {
 
 // As the word has it in numbers; field k and its state, as in a RegisterAnswer, are bits 3k to 3k + 2.
 #[repr(C)]
-#[derive(Clone, Copy)]
+#[derive(Clone, Copy, Debug, Default, PartialEq, Eq)]
 pub struct OpcodeX86_64Answer {
     pub value: u32,
     pub answer: u8,
@@ -44,26 +44,30 @@ pub fn brasspurse_opcode_specific_bits(word: u32) -> u32
     OpcodeBitfield::new(word).specific_bits()
 }
 
+impl From<Named> for RegisterAnswer {
+    ghost from_gives = { λ named answer. answer ≡ register_answer (told named) };
+
+    fn from(named: Named) -> RegisterAnswer {
+        match named {
+            Named::Absent => RegisterAnswer::default(),
+            Named::Register(name) => RegisterAnswer {
+                state: 1,
+                number: u32::from(name.number()),
+                dwarf_number: u32::from(name.dwarf_number()),
+            },
+            Named::Unknown(number) => RegisterAnswer {
+                state: 2,
+                number: u32::from(number),
+                dwarf_number: 0,
+            },
+        }
+    }
+}
+
 pub fn brasspurse_register_x86_64(n: u8) -> RegisterAnswer
     ensures { result ≡ register_answer (named_of n) }
 {
-    match RegisterNameX86_64::parse(n) {
-        Named::Absent => RegisterAnswer {
-            state: 0,
-            number: 0,
-            dwarf_number: 0,
-        },
-        Named::Register(name) => RegisterAnswer {
-            state: 1,
-            number: n as u32,
-            dwarf_number: name.dwarf_number() as u32,
-        },
-        Named::Unknown(number) => RegisterAnswer {
-            state: 2,
-            number: number as u32,
-            dwarf_number: 0,
-        },
-    }
+    RegisterNameX86_64::parse(n).into()
 }
 
 pub fn brasspurse_parse_x86_64(word: u32) -> OpcodeX86_64Answer

@@ -4,7 +4,7 @@ ghost use Rattle.rules.specs.RulesX86 as rules_x86;
 ghost use Rattle.rules.specs.RulesArm64 as rules_arm64;
 ghost use Rattle.step.specs.StepsX86 as steps_x86;
 ghost use Rattle.step.specs.StepsArm64 as steps_arm64;
-ghost use Rattle.brasspurse.specs.Frames.{register_number, rule_x86_answer, rule_arm64_answer, step_x86_answer, step_arm64_answer};
+ghost use Rattle.brasspurse.specs.Frames.{rule_x86_answer, rule_arm64_answer, step_x86_answer, step_arm64_answer};
 
 use brasspurse::frames::{RuleArm64Answer, RuleX86_64Answer, StepArm64Answer, StepX86_64Answer};
 use step::arm64::RegistersArm64;

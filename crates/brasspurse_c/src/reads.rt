@@ -1,6 +1,6 @@
 // For C: reads of little-endian numbers.
 ghost use Rattle.std.specs.Prelude.{◌≡◌};
-ghost use Rattle.reader.specs.Reader.{Told, value, granted_of, read_of};
+ghost use Rattle.reader.specs.Reader.{granted_of, read_of};
 ghost use Rattle.brasspurse.specs.Flat.{read_answer};
 
 use brasspurse::reads::ReadAnswer;

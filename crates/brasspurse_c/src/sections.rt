@@ -1,13 +1,13 @@
 // For C: sections. The calls that end in `_in` take the places of the two lists, which anyone may name: they are granted anew.
-ghost use Rattle.std.specs.Prelude.{◌≡◌, ◌<◌};
-ghost use Rattle.raw.specs.Raw.{parse_of, lists_told};
-ghost use Rattle.iterate.specs.Iterate.{next_on, next_in, next_told};
-ghost use Rattle.iterate.specs.Range.{range_on, range_in, range_told};
-ghost use Rattle.lookup.specs.Lookup.{lookup_on, lookup_in, looked_told, probes_of};
+ghost use Rattle.std.specs.Prelude.{◌≡◌};
+ghost use Rattle.raw.specs.Raw.{parse_of};
+ghost use Rattle.iterate.specs.Iterate.{next_on, next_in};
+ghost use Rattle.iterate.specs.Range.{range_on, range_in};
+ghost use Rattle.lookup.specs.Lookup.{lookup_on, lookup_in};
 ghost use Rattle.batch.specs.Batch.{batch, batch_of};
-ghost use Rattle.fill.specs.Fill.{fill_on, fill_in, filled_told};
+ghost use Rattle.fill.specs.Fill.{fill_on, fill_in};
 ghost use Rattle.well_formed.specs.WellFormed.{well_formed};
-ghost use Rattle.brasspurse.specs.Sections.{parse_answer, range_answer, lookup_answer, next_answer, fill_answer, flat_filled, filled_outcome};
+ghost use Rattle.brasspurse.specs.Sections.{parse_answer, range_answer, lookup_answer, next_answer, fill_answer, filled_outcome};
 
 use brasspurse::sections::{FillAnswer, LookupAnswer, NextAnswer, ParseAnswer, RangeAnswer};
 use raw::Lists;

@@ -4,7 +4,7 @@ ghost use Rattle.opcodes.specs.Bits.{kind_of, specific_of};
 ghost use Rattle.opcodes.specs.Registers.{named_of};
 ghost use Rattle.opcodes.specs.WordsX86 as x86;
 ghost use Rattle.opcodes.specs.WordsArm64 as arm;
-ghost use Rattle.brasspurse.specs.Flat.{register_answer, states_from, x86_answer};
+ghost use Rattle.brasspurse.specs.Flat.{register_answer, x86_answer};
 
 use brasspurse::words::{OpcodeX86_64Answer, RegisterAnswer};
 use opcodes::words_arm64::WordArm64;

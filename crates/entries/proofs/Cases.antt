@@ -8,7 +8,8 @@ use native.Mathlib.Omega.{arith}
 use borrow.Author.Tests.{lt-ltb, le-ltb, le-leb, ltb-true, ltb-false, not-true, not-false}
 use lib.Dec.{ltb}
 use lib.ListN.{length}
-use Rattle.reader.specs.Reader.{value, outside, granted_of, read_of, word_at, Slice, slice, part_in}
+use Rattle.std.specs.Prelude.{Some, None}
+use Rattle.reader.specs.Reader.{granted_of, read_of, word_at, Slice, slice, part_in}
 use Rattle.reader.proofs.Laws.{fits, was-word, was_granted, was-refused}
 use Rattle.raw.specs.declared.Kind.{Kind}
 use Rattle.raw.specs.declared.Page.{Page}
@@ -25,10 +26,6 @@ module _ (globals : List ℕ) (index : ℕ) where
   pub local-above : is_global globals index ≡ false → length globals / 4 ≤ index
   unfolding is_global
   local-above t = ltb-false _ _ t
-
-  pub is-palette : (b : Bool) → b ≡ is_global globals index → cond b Origin.Global Origin.Local ≡ palette_of globals index
-  unfolding palette_of
-  is-palette b e = ap (λ (t : Bool). cond t Origin.Global Origin.Local) e
 
   pub tests-global : ltb index (length globals / 4) ≡ is_global globals index
   unfolding is_global
@@ -74,13 +71,13 @@ module _ (globals : List ℕ) (index : ℕ) (locals : List ℕ) (there : Bool) w
     fine : (is_global globals index || there) ≡ true
     fine = not-false _ t
 
-    pub no-opcode : read_of 4 bytes 0 ≡ outside → refused 14 ≡ resolve_of globals locals there index
+    pub no-opcode : read_of 4 bytes 0 ≡ None → refused 14 ≡ resolve_of globals locals there index
     unfolding resolve_of
     no-opcode q =
         let u : granted_of 4 (opcode_part globals locals index) 0 ≡ false = rw e at (was-refused 4 bytes 0 q) in
         simp (fine, u)
 
-    pub an-opcode : (x : ℕ) → read_of 4 bytes 0 ≡ value x → good x ≡ resolve_of globals locals there index
+    pub an-opcode : (x : ℕ) → read_of 4 bytes 0 ≡ Some x → good x ≡ resolve_of globals locals there index
     unfolding resolve_of
     an-opcode x q =
         let u : granted_of 4 (opcode_part globals locals index) 0 ≡ true = rw e at (was_granted 4 bytes 0 x q) in

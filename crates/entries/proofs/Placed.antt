@@ -1,15 +1,16 @@
 -- What is read by a page's place, step by step, on plain values; and after the page was read it is the page's function.
 -- Assumes nothing.
-use Prim.Native.Nat.{ℕ, suc, ◌+◌, ◌-◌, ◌*◌, ◌/◌, ◌%◌, ◌^◌, ◌≤◌, ◌<◌}
+use Prim.Native.Nat.{ℕ, zero, suc, ◌+◌, ◌-◌, ◌*◌, ◌/◌, ◌%◌, ◌^◌, ◌≤◌, ◌<◌}
 use mathlib.Core.Path.{◌≡◌, refl, ap, sym, subst, ◌∙◌}
 use mathlib.Core.List.{List, []}
 use mathlib.Core.Bool.{Bool, true, false, not, cond, ◌||◌, ◌&&◌}
 use native.Mathlib.Omega.{arith}
 use native.Mathlib.Decide.{dec_lt, dec_le}
-use borrow.Author.Tests.{ltb-true, lt-ltb, le-ltb, lt-leb, le-leb}
-use lib.Dec.{T, ltb, leb}
-use lib.ListN.{length, take, drop, length-drop}
-use Rattle.reader.specs.Reader.{value, granted_of, read_of, word_at, part_of, Slice, slice, further, part_in}
+use borrow.Author.Tests.{eqb-true, ltb-true, lt-ltb, le-ltb, lt-leb}
+use lib.Dec.{T, eqb, ltb, leb}
+use lib.ListN.{length, drop, length-drop}
+use Rattle.std.specs.Prelude.{Some}
+use Rattle.reader.specs.Reader.{granted_of, read_of, word_at, part_of, Slice, slice, part_in}
 use Rattle.reader.proofs.Laws as reading
 use Rattle.search.specs.declared.Layout.{Layout}
 use Rattle.search.specs.Search.{size_of, key_of}
@@ -23,8 +24,7 @@ use Rattle.raw.specs.Checked.{Checked, good, refused, number_of}
 use Rattle.entries.specs.declared.Origin.{Origin}
 use Rattle.entries.specs.declared.Entry.{Entry}
 use Rattle.entries.specs.declared.Place.{Place}
-use Rattle.entries.specs.declared.Resolved.{Resolved}
-use Rattle.entries.specs.Entries.{four_of, is_global, opcode_part, opcode_part_in, start_in, end_in, resolve_of, opcode_in, origin_in, sourced, function_in, functions_of, locals_of, function_of, opcode_told}
+use Rattle.entries.specs.Entries.{four_of, is_global, opcode_part, opcode_part_in, start_in, end_in, resolve_of, opcode_in, origin_in, sourced, function_in, functions_of, locals_of, function_of}
 use Rattle.entries.specs.Section.{first_of, offset_of, page_at, function_at, place_at}
 use Rattle.entries.specs.Placed.{first_at, size_at, list_there, entry_there, list_at, list_in, locals_there, locals_at, no_entry, read_of as read_placed, entry_in, opcode_for, spanning}
 use Rattle.entries.proofs.Cases.{four-part, four-none, part-global, part-local, no-locals, no-opcode, an-opcode, end-inside, end-last}
@@ -38,10 +38,6 @@ sum_inside m f z g y p q h = simp (p, q) h
 
 pub part-is : (x r : Slice) (f z g y : ℕ) → f ≡ g → z ≡ y → r ≡ part_in x f z → r ≡ part_in x g y
 part-is x r f z g y p q e = e ∙ simp (p, q)
-
--- a part that lies inside
-pub part-inside : (x : Slice) (o n : ℕ) → o + n ≤ length x.bytes → (p : ℕ × ℕ) → p ≡ further x.start o → slice p (take (o + n - o) (drop o x.bytes)) ≡ part_in x o n
-part-inside x o n h p e = reading.placed x.bytes o n x.start p _ (e ∙ simp (le-leb o (length x.bytes) (omega arith))) (reading.lies-inside x.bytes o n)
 
 -- the bytes of the list
 pub size_small : (l : Layout) (k n : ℕ) → k ≡ size_of l → n < 2 ^ 32 → k * n < 68719476736
@@ -158,8 +154,8 @@ module _ (globals : List ℕ) (index : ℕ) where
       is-named : (x : ℕ) → 4 ≤ length bytes → x ≡ word_at 4 bytes 0 → good x ≡ resolve_of globals locals there index
       is-named x h p = by there refl ∙ same-named
         where
-          told : read_of 4 bytes 0 ≡ value x
-          told = reading.granted 4 bytes 0 (omega arith) ∙ ap value (sym (reading.there 4 bytes 0 (omega arith)) ∙ sym p)
+          told : read_of 4 bytes 0 ≡ Some x
+          told = reading.granted 4 bytes 0 (omega arith) ∙ ap Some (sym (reading.there 4 bytes 0 (omega arith)) ∙ sym p)
 
           readable : (b : Bool) → index < length globals / 4 → not (is_global globals index || b) ≡ false
           readable b g = simp (is-global g)
@@ -187,12 +183,9 @@ module _ (s globals : List ℕ) (q : Place) (index : ℕ) (there : Bool) (et : t
   pub names-one : (x : ℕ) → 4 ≤ length bytes → x ≡ word_at 4 bytes 0 → good x ≡ resolve_of globals (locals_at s q) (locals_there s q) index
   names-one x h p = is-named globals index (locals_at s q) there bytes lent-part x h p ∙ there-is
 
--- the word in a list, and what an opcode spans
+-- the word in a list
 pub word_of : (list l : List ℕ) (o x : ℕ) → list ≡ l → x ≡ word_at 4 list o → x ≡ word_at 4 l o
 word_of list l o x e h = rw e at h
-
-pub spans : (q : Place) (i start end : ℕ) (v w : Resolved) → v ≡ w → spanning q i start end (opcode_told w) ≡ spanning q i start end (opcode_told v)
-spans q i start end v w e = ap (λ (x : Resolved). spanning q i start end (opcode_told x)) (sym e)
 
 -- an entry, by the page's kind
 pub entry-there : (k j : Kind) (n i m : ℕ) → j ≡ k → size_of (layout j) * n ≤ m → i < n → size_of (layout k) * i + size_of (layout k) ≤ m
@@ -235,6 +228,16 @@ past_is list pg next i after e = by_place (dec_lt (i + 1) pg.functions_len)
     by_place : Dec (i + 1 < pg.functions_len) → after.start ≡ end_in list pg next i
     by_place (yes h) = start_is list pg next (i + 1) h after e ∙ sym (end-inside list pg next i h)
     by_place (no h) = ap (λ (x : Entry). x.start) (e ∙ sym (no-entry list pg next (i + 1) (omega arith))) ∙ sym (end-last list pg next i (omega arith))
+
+-- one test of two numbers: whether either has more than 32 bits
+pub above0 : (n : ℕ) → eqb n 0 ≡ false → 0 < n
+above0 zero e = cc
+above0 (suc n) e = omega arith
+
+pub none-above : (a b : ℕ) → eqb (a / 4294967296 + b / 4294967296) 0 ≡ true → (a < 4294967296) × (b < 4294967296)
+none-above a b e =
+    let h = eqb-true _ _ e in
+    (omega (arith, h), omega (arith, h))
 
 -- the checks of a read
 module _ (s : List ℕ) (q : Place) (i : ℕ) where

@@ -5,12 +5,10 @@ use Rattle.reader.specs.Reader.{granted_of, word_at, part_of, Slice, slice, furt
 use Rattle.search.specs.Search.{size_of, key_of}
 use Rattle.raw.specs.declared.Kind.{Kind}
 use Rattle.raw.specs.declared.Page.{Page}
-use Rattle.raw.specs.Checked.{Checked, good, refused, ◌>>=◌, ◌>>◌, check, number_of}
+use Rattle.raw.specs.Checked.{Checked, good, refused, ◌>>=◌, ◌>>◌, check}
 use Rattle.raw.specs.Raw.{layout, locals_granted}
 use Rattle.entries.specs.declared.Origin.{Origin}
 use Rattle.entries.specs.declared.Function.{Function}
-use Rattle.entries.specs.declared.Answer.{Answer}
-use Rattle.entries.specs.declared.Resolved.{Resolved}
 
 -- a page's functions and its local opcodes, as parts of it
 unfoldable pub functions_of : List ℕ → Page → List ℕ
@@ -99,16 +97,7 @@ module _ (page : List ℕ) (pg : Page) where
   unfoldable pub function_of : (p : ℕ) → List ℕ → (next : ℕ) → ℕ → Checked Function
   function_of p globals next i = function_in p globals (locals_of page pg) (locals_granted page pg) (functions_of page pg) pg next i
 
--- what the answers tell
-abbrev pub function_told : Answer → Checked Function
-function_told (Answer.Function f) = good f
-function_told (Answer.Refused e) = refused (number_of e)
-
 -- for the helpers: an opcode with where it comes from
 abbrev pub sourced : Origin → Checked ℕ → Checked (ℕ × Origin)
 sourced o (good x) = good (x, o)
 sourced o (refused k) = refused k
-
-abbrev pub opcode_told : Resolved → Checked (ℕ × Origin)
-opcode_told (Resolved.Opcode x o) = good (x, o)
-opcode_told (Resolved.Refused e) = refused (number_of e)

@@ -5,19 +5,20 @@ ghost use Rattle.std.specs.Prelude.{◌≡◌, true, cond, [], ◌+◌, ◌*◌,
 ghost use Rattle.reader.specs.Reader.{word_at, slice_told, part_in};
 ghost use Rattle.search.specs.Search.{size_of};
 ghost use Rattle.raw.specs.declared.Error.{Error};
+ghost use Rattle.raw.specs.Checked.{told};
 ghost use Rattle.raw.specs.Raw.{layout};
-ghost use Rattle.entries.specs.Entries.{is_global, palette_of, opcode_part_in, resolve_of, origin_number, function_told, sourced, opcode_told};
-ghost use Rattle.entries.specs.Placed.{first_at, size_at, list_there, entry_there, list_at, list_in, locals_there, locals_at, no_entry, read_of, entry_in, opcode_for, spanning};
+ghost use Rattle.entries.specs.Entries.{is_global, palette_of, opcode_part_in, resolve_of, origin_number, sourced};
+ghost use Rattle.entries.specs.Placed.{first_at, size_at, list_there, entry_there, list_at, list_in, locals_there, locals_at, no_entry, read_of, entry_in, opcode_for};
 
-use raw::{Error, Kind, Page};
+use raw::{Error, Kind, Page, check};
 use search::Layout;
 
 // Where an opcode stands: in the function's own entry of a regular page, in the section's global list, or in the page's local one.
-#[derive(Clone, Copy)]
+#[derive(Clone, Copy, Debug, PartialEq, Eq)]
 pub enum Origin {
-    Regular,
-    Global,
-    Local,
+    Regular = 1,
+    Global = 2,
+    Local = 3,
 }
 
 impl Origin {
@@ -25,17 +26,13 @@ impl Origin {
     pub fn number(self) -> u8
         ensures { result ≡ origin_number self }
     {
-        match self {
-            Origin::Regular => 1,
-            Origin::Global => 2,
-            Origin::Local => 3,
-        }
+        self as u8
     }
 }
 
 // Page and index are the cursor at which iteration answers this function. The order is for speed: values that stand side by side here and in
 // a flat answer are loaded at once, and have to wait where each was stored by itself.
-#[derive(Clone, Copy)]
+#[derive(Clone, Copy, Debug, PartialEq, Eq)]
 pub struct Function {
     pub start_address: u32,
     pub opcode: u32,
@@ -43,12 +40,6 @@ pub struct Function {
     pub page: u32,
     pub end_address: u32,
     pub index: u32,
-}
-
-#[derive(Clone, Copy)]
-pub enum Answer {
-    Function(Function),
-    Refused(Error),
 }
 
 // A page's place: its index, its offset in the section, the next page's first address, and what it was read as. Any numbers.
@@ -60,10 +51,12 @@ pub struct Place {
     pub page: Page,
 }
 
+// A page in its section: the section's bytes and its global opcodes, and the page's place. Any bytes.
 #[derive(Clone, Copy)]
-enum Resolved {
-    Opcode { opcode: u32, origin: Origin },
-    Refused(Error),
+pub struct PageAt<'a> {
+    pub section: &'a [u8],
+    pub globals: &'a [u8],
+    pub place: Place,
 }
 
 // An entry's first word, and where its function starts.
@@ -73,21 +66,12 @@ struct Entry {
     pub start: u64,
 }
 
-pub fn layout_of(kind: Kind) -> Layout
-    ensures { result ≡ layout kind }
-{
-    match kind {
-        Kind::Regular => Layout::Regular,
-        Kind::Compressed => Layout::Compressed,
-    }
-}
-
 // Bytes that are there, with no test of it.
 fn word(s: &[u8], at: usize) -> u32
     requires { at + 4 ≤ length s.now }
     ensures { result ≡ word_at 4 s.now at }
 {
-    reader::from_le_bytes(s[at], s[at + 1], s[at + 2], s[at + 3])
+    u32::from_le_bytes([s[at], s[at + 1], s[at + 2], s[at + 3]])
 }
 
 fn inside(s: &[u8], at: usize, n: usize) -> &[u8]
@@ -98,77 +82,20 @@ fn inside(s: &[u8], at: usize, n: usize) -> &[u8]
     &s[at..end]
 }
 
-// Where the page's list of functions starts, and its bytes. No number here is so large that a sum wraps.
-fn first_of(q: Place) -> usize
-    ensures { (result ≡ first_at q) × (result < 8589934592) }
-{
-    q.offset as usize + q.page.functions_offset as usize
-}
-
-fn size_of(q: Place) -> usize
-    ensures { (result ≡ size_at q) × (result < 68719476736) }
-{
-    let pg = q.page;
-    let kind = pg.kind;
-    let n = pg.functions_len as usize;
-    search::entry_size(layout_of(kind)) * n
-}
-
-fn has_list(s: &[u8], q: Place) -> bool
-    ensures { result ≡ list_there s.now q }
-{
-    first_of(q) + size_of(q) <= s.len()
-}
-
-// Whether the list has entry i, and lies in the section.
-fn has_entry(s: &[u8], q: Place, i: u32) -> bool
-    ensures { result ≡ entry_there s.now q i }
-{
-    let pg = q.page;
-    if pg.functions_len <= i {
-        return false;
+impl Place {
+    // Where the page's list of functions starts, and its bytes. No number here is so large that a sum wraps.
+    fn first(self) -> usize
+        ensures { (result ≡ first_at self) × (result < 8589934592) }
+    {
+        self.offset as usize + self.page.functions_offset as usize
     }
-    has_list(s, q)
-}
 
-fn list_at(s: &[u8], q: Place) -> &[u8]
-    requires { list_there s.now q ≡ true }
-    ensures { slice_told result ≡ part_in (slice_told s.entry) (first_at q) (size_at q) }
-{
-    inside(s, first_of(q), size_of(q))
-}
-
-// The bytes of the page's functions; none where they don't lie in the section.
-pub fn list_of(s: &[u8], q: Place) -> &[u8]
-    ensures { slice_told result ≡ list_in (slice_told s.entry) q }
-{
-    if has_list(s, q) {
-        list_at(s, q)
-    } else {
-        &s[..0]
+    fn size(self) -> usize
+        ensures { (result ≡ size_at self) × (result < 68719476736) }
+    {
+        let kind = self.page.kind;
+        search::entry_size(Layout::from(kind)) * self.page.functions_len as usize
     }
-}
-
-// Whether the page's local opcodes lie in the section.
-pub fn has_locals(s: &[u8], q: Place) -> bool
-    ensures { result ≡ locals_there s.now q }
-{
-    let pg = q.page;
-    let at = q.offset as usize + pg.local_opcodes_offset as usize;
-    at + 4 * pg.local_opcodes_len as usize <= s.len()
-}
-
-// The page's local opcodes; none where they are not there.
-fn locals_at(s: &[u8], q: Place, there: bool) -> &[u8]
-    requires { there ≡ locals_there s.now q }
-    ensures { result.now ≡ cond there (locals_at s.now q) [] }
-{
-    if !there {
-        return &s[..0];
-    }
-    let pg = q.page;
-    let at = q.offset as usize + pg.local_opcodes_offset as usize;
-    inside(s, at, 4 * pg.local_opcodes_len as usize)
 }
 
 // Whether an opcode's index names a global one.
@@ -178,6 +105,7 @@ fn is_global(globals: &[u8], index: u32) -> bool
     (index as usize) < globals.len() / 4
 }
 
+#[tactic(auto, unfolding(crate::specs::Entries::palette_of))]
 fn palette_of(globals: &[u8], index: u32) -> Origin
     ensures { result ≡ palette_of globals.now index }
 {
@@ -214,21 +142,6 @@ fn unnamed(there: bool) -> Error
     }
 }
 
-// The opcode that the index names.
-fn named<'a>(s: &'a [u8], globals: &'a [u8], q: Place, index: u32) -> Resolved
-    ensures { opcode_told result ≡ sourced (palette_of globals.now index) (resolve_of globals.now (locals_at s.now q) (locals_there s.now q) index) }
-{
-    let there = has_locals(s, q);
-    let bytes = opcode_part(globals, locals_at(s, q, there), index);
-    if bytes.len() < 4 {
-        return Resolved::Refused(unnamed(there));
-    }
-    Resolved::Opcode {
-        opcode: word(bytes, 0),
-        origin: palette_of(globals, index),
-    }
-}
-
 // Entry i of a list; past the last, the next page's first address.
 fn entry_at(list: &[u8], pg: Page, next: u32, i: usize) -> Entry
     requires { size_of (layout pg.kind) * pg.functions_len ≤ length list.now }
@@ -254,29 +167,6 @@ fn entry_at(list: &[u8], pg: Page, next: u32, i: usize) -> Entry
     }
 }
 
-// The opcode of entry i, whose first word is known.
-fn opcode_at<'a>(
-    s: &'a [u8],
-    globals: &'a [u8],
-    q: Place,
-    list: &[u8],
-    i: usize,
-    first: u32,
-) -> Resolved
-    requires { (list.now ≡ list_at s.now q) × (size_at q ≤ length list.now) × (i < q.page.functions_len) × (first ≡ word_at 4 list.now (size_of (layout q.page.kind) * i)) }
-    ensures { opcode_told result ≡ opcode_for s.now globals.now q i }
-{
-    let pg = q.page;
-    let kind = pg.kind;
-    match kind {
-        Kind::Regular => Resolved::Opcode {
-            opcode: word(list, search::REGULAR_ENTRY * i + 4),
-            origin: Origin::Regular,
-        },
-        Kind::Compressed => named(s, globals, q, first / search::COMPRESSED_KEYS),
-    }
-}
-
 // Why there is no such entry.
 fn no_entry(kind: Kind) -> Error
     ensures { result ≡ no_entry kind }
@@ -287,42 +177,111 @@ fn no_entry(kind: Kind) -> Error
     }
 }
 
-// Function i of the page, from a start to an end that fit.
-fn function_to(q: Place, i: u32, start: u64, end: u64, opcode: Resolved) -> Answer
-    requires { (start < 4294967296) × (end < 4294967296) }
-    ensures { function_told result ≡ spanning q i start end (opcode_told opcode) }
-{
-    match opcode {
-        Resolved::Opcode { opcode, origin } => Answer::Function(Function {
-            start_address: start as u32,
-            end_address: end as u32,
+impl<'a> PageAt<'a> {
+    fn has_list(self) -> bool
+        ensures { result ≡ list_there self.entry.section.now self.entry.place }
+    {
+        self.place.first() + self.place.size() <= self.section.len()
+    }
+
+    // Whether the list has entry i, and lies in the section.
+    fn has_entry(self, i: u32) -> bool
+        ensures { result ≡ entry_there self.entry.section.now self.entry.place i }
+    {
+        i < self.place.page.functions_len && self.has_list()
+    }
+
+    fn list_there(self) -> &'a [u8]
+        requires { list_there self.section.now self.place ≡ true }
+        ensures { slice_told result ≡ part_in (slice_told self.entry.section) (first_at self.entry.place) (size_at self.entry.place) }
+    {
+        inside(self.section, self.place.first(), self.place.size())
+    }
+
+    // The bytes of the page's functions; none where they don't lie in the section.
+    pub fn list(self) -> &'a [u8]
+        ensures { slice_told result ≡ list_in (slice_told self.entry.section) self.entry.place }
+    {
+        if self.has_list() {
+            self.list_there()
+        } else {
+            &self.section[..0]
+        }
+    }
+
+    // Whether the page's local opcodes lie in the section.
+    pub fn has_local_opcodes(self) -> bool
+        ensures { result ≡ locals_there self.entry.section.now self.entry.place }
+    {
+        let page = self.place.page;
+        let at = self.place.offset as usize + page.local_opcodes_offset as usize;
+        at + 4 * page.local_opcodes_len as usize <= self.section.len()
+    }
+
+    // The page's local opcodes; none where they are not there.
+    fn local_opcodes(self, there: bool) -> &'a [u8]
+        requires { there ≡ locals_there self.section.now self.place }
+        ensures { result.now ≡ cond there (locals_at self.entry.section.now self.entry.place) [] }
+    {
+        if !there {
+            return &self.section[..0];
+        }
+        let page = self.place.page;
+        let at = self.place.offset as usize + page.local_opcodes_offset as usize;
+        inside(self.section, at, 4 * page.local_opcodes_len as usize)
+    }
+
+    // The opcode that the index names, and where it stands.
+    fn named(self, index: u32) -> Result<(u32, Origin), Error>
+        ensures { told result ≡ sourced (palette_of self.entry.globals.now index) (resolve_of self.entry.globals.now (locals_at self.entry.section.now self.entry.place) (locals_there self.entry.section.now self.entry.place) index) }
+    {
+        let there = self.has_local_opcodes();
+        let bytes = opcode_part(self.globals, self.local_opcodes(there), index);
+        if bytes.len() < 4 {
+            return Err(unnamed(there));
+        }
+        Ok((word(bytes, 0), palette_of(self.globals, index)))
+    }
+
+    // The opcode of entry i, whose first word is known.
+    fn opcode(self, list: &[u8], i: usize, first: u32) -> Result<(u32, Origin), Error>
+        requires { (list.now ≡ list_at self.section.now self.place) × (size_at self.place ≤ length list.now) × (i < self.place.page.functions_len) × (first ≡ word_at 4 list.now (size_of (layout self.place.page.kind) * i)) }
+        ensures { told result ≡ opcode_for self.entry.section.now self.entry.globals.now self.entry.place i }
+    {
+        let kind = self.place.page.kind;
+        match kind {
+            Kind::Regular => Ok((word(list, search::REGULAR_ENTRY * i + 4), Origin::Regular)),
+            Kind::Compressed => self.named(first / search::COMPRESSED_KEYS),
+        }
+    }
+
+    // Function i of the page there: a few comparisons show that what is read lies in the section, and then it is read straight.
+    // For speed it is laid into its callers, whose loops would call it for each function.
+    #[inline(always)]
+    pub fn function(self, i: u32) -> Result<Function, Error>
+        ensures { told result ≡ read_of self.entry.section.now self.entry.globals.now self.entry.place i }
+    {
+        let page = self.place.page;
+        let next = self.place.next;
+        let kind = page.kind;
+        let k = i as usize;
+        check(self.has_entry(i), no_entry(kind))?;
+        let list = self.list_there();
+        let here = entry_at(list, page, next, k);
+        let after = entry_at(list, page, next, k + 1);
+        // For speed one test for both: whether either has more than 32 bits.
+        check(
+            here.start / 4294967296 + after.start / 4294967296 == 0,
+            Error::AddressTooLarge,
+        )?;
+        let (opcode, origin) = self.opcode(list, k, here.word)?;
+        Ok(Function {
+            start_address: here.start as u32,
+            end_address: after.start as u32,
             opcode,
-            page: q.index,
+            page: self.place.index,
             index: i,
             origin,
-        }),
-        Resolved::Refused(error) => Answer::Refused(error),
+        })
     }
-}
-
-// Function i of the page there: a few comparisons show that what is read lies in the section, and then it is read straight.
-pub fn read<'a>(s: &'a [u8], globals: &'a [u8], q: Place, i: u32) -> Answer
-    ensures { function_told result ≡ read_of s.now globals.now q i }
-{
-    let pg = q.page;
-    let next = q.next;
-    let kind = pg.kind;
-    let k = i as usize;
-    if !has_entry(s, q, i) {
-        return Answer::Refused(no_entry(kind));
-    }
-    let list = list_at(s, q);
-    let here = entry_at(list, pg, next, k);
-    let after = entry_at(list, pg, next, k + 1);
-    // For speed one test for both: whether either has more than 32 bits.
-    if here.start / 4294967296 + after.start / 4294967296 > 0 {
-        return Answer::Refused(Error::AddressTooLarge);
-    }
-    let opcode = opcode_at(s, globals, q, list, k, here.word);
-    function_to(q, i, here.start, after.start, opcode)
 }

@@ -3,19 +3,17 @@
 use Prim.Native.Nat.{ℕ, zero, suc, ◌+◌, ◌-◌, ◌/◌, ◌≤◌, ◌<◌, zero-le}
 use mathlib.Core.Path.{◌≡◌, refl, ap, sym, ◌∙◌}
 use mathlib.Core.List.{List, [], ◌∷◌, ◌++◌, append-nil, append_assoc}
-use mathlib.Core.Logic.{◌⊎◌, ⊎_elim}
 use native.Mathlib.Nat.{sub-zero}
 use native.Mathlib.Omega.{arith}
 use lib.ListN.{length, length-append}
+use Rattle.std.specs.Prelude.{Result, Ok}
+use Rattle.reader.specs.Reader.{Slice, slice_told}
 use Rattle.raw.specs.declared.Lists.{Lists}
 use Rattle.raw.specs.declared.Page.{Page}
-use Rattle.raw.specs.declared.PageEntry.{PageEntry}
-use Rattle.raw.specs.declared.Opened.{Opened}
+use Rattle.raw.specs.declared.Error.{Error}
 use Rattle.raw.specs.Checked.{Checked, good, refused, number_of}
-use Rattle.raw.specs.Raw.{globals_of, pages_of, entry_of, open_of, page_told}
-use Rattle.raw.proofs.Opens.{opened-reads}
 use Rattle.entries.specs.declared.Function.{Function}
-use Rattle.entries.specs.Section.{first_of, offset_of, page_at, opened_at, function_at}
+use Rattle.entries.specs.Section.{opened_at, function_at}
 use Rattle.iterate.specs.declared.Cursor.{Cursor}
 use Rattle.iterate.specs.Iterate.{cursor, end_cursor}
 use Rattle.iterate.proofs.Iteration.{at-end, page-refused, page-function, page-past}
@@ -23,12 +21,12 @@ use Rattle.fill.specs.declared.Filled.{Filled}
 use Rattle.fill.specs.declared.Stop.{Stop}
 use Rattle.fill.specs.Fill.{Why, full, ended, refusal, Taken, after, stopping, taken_of, numbers_of, written_over, Outcome, outcome, fill_of, why_of, filled, filled_told}
 use Rattle.fill.specs.declared.Paged.{Paged}
-use Rattle.entries.specs.declared.Place.{Place}
+use Rattle.entries.specs.declared.PageAt.{PageAt}
 use Rattle.entries.specs.Placed.{read_of}
 use Rattle.fill.specs.Block.{put_of, Wrote, none, more, Stops, PageFilled, OnWay}
 use Rattle.fill.proofs.Writing.{length-written, put_next}
-use Rattle.entries.proofs.Placed.{placed}
-use Rattle.entries.proofs.Places.{offset-is, next-is, opens-there}
+use Rattle.iterate.specs.Opened.{Opened, opens, opened_told}
+use Rattle.iterate.proofs.Opened.{is-opened, function-there}
 
 -- the calls from a cursor on, where there is room
 module _ (s : List ℕ) (l : Lists) where
@@ -116,36 +114,48 @@ module _ {s : List ℕ} {l : Lists} {p : ℕ} {pg : Page} (h : p + 1 < l.pages_l
       one_more (goes_on inv w (omega arith)) x (omega arith) (one-good s l p pg h o _ m x (omega arith) u (sym (same m u) ∙ e))
 
 -- after a page was opened and its functions were written
-abbrev place_of : ℕ → PageEntry → Page → Place
-place_of p e pg = record { index = p; offset = e.offset; next = e.next; page = pg }
+module _ (z : Slice) {l : Lists} {c₀ : Cursor} {out₀ out out' : List ℕ} {k p i : ℕ} {w : Result PageAt Error} {x : PageAt} {r : Paged} (inv : OnWay z.bytes l c₀ out₀ k p i out)
+    (h : p + 1 < l.pages_len) (ew : opened_told w ≡ opens z l p) (e : w ≡ Ok x)
+    (f : PageFilled (read_of x.section.now x.globals.now x.place) x.place.page.functions_len k i out r out') where
+  abbrev s : List ℕ
+  s = z.bytes
 
-module _ {s : List ℕ} {l : Lists} {c₀ : Cursor} {out₀ out out' globals : List ℕ} {k p i : ℕ} {pages : List ℕ} {entry : PageEntry} {w : Opened} {pg : Page} {r : Paged} (inv : OnWay s l c₀ out₀ k p i out)
-    (h : p + 1 < l.pages_len) (eg : globals ≡ globals_of s l) (ep : pages ≡ pages_of s l) (ee : entry ≡ entry_of pages p) (ew : page_told w ≡ open_of s entry.offset entry.first) (e : w ≡ Opened.Page pg)
-    (f : PageFilled (read_of s globals (place_of p entry pg)) pg.functions_len k i out r out') where
-  abbrev q : Place
-  q = place_of p entry pg
+  abbrev pg : Page
+  pg = x.place.page
 
-  opens : opened_at s l p ≡ good pg
-  opens = sym (opens-there s l p pages ep entry ee _ ew) ∙ ap page_told e
+  abbrev read : ℕ → Checked Function
+  read = read_of x.section.now x.globals.now x.place
 
-  same : (j : ℕ) → j < pg.functions_len → read_of s globals q j ≡ function_at s l p pg j
-  unfolding opened_at function_at page_at
-  same j t =
-      rw (offset-is s l p pages ep entry ee, next-is s l p pages ep entry ee, eg)
-      (placed s p (offset_of s l p) (first_of s l (suc p)) (first_of s l p) pg (opened-reads s (offset_of s l p) (first_of s l p) pg opens).0 (globals_of s l) j t)
+  abbrev page : Opened
+  page = record { section = slice_told x.section; globals = slice_told x.globals; place = x.place }
+
+  is : good page ≡ opens z l p
+  is = ap opened_told (sym e) ∙ ew
+
+  opened : opened_at s l p ≡ good pg
+  opened = is-opened z l p page is
+
+  same : (j : ℕ) → j < pg.functions_len → read j ≡ function_at s l p pg j
+  same j t = function-there z l p page is j t
 
   room-is : length out / 3 ≡ length out₀ / 3
   room-is = ap (λ (n : ℕ). n / 3) (same_length inv)
 
   on : OnWay s l c₀ out₀ r.functions p f.at out'
   on =
-      goes_on h opens (read_of s globals q) same inv f.wrote
+      goes_on h opened read same inv f.wrote
       (omega (arith, f.room, room-is))
+
+  -- the page's end leaves room
+  pub page-room : r.stop ≡ Stop.End → r.functions < length out₀ / 3
+  page-room t =
+      let why : Stops read pg.functions_len (length out / 3) r.functions f.at r.index Stop.End = rw t at f.why in
+      omega (arith, why.0, room-is)
 
   pub page-ends : r.stop ≡ Stop.End → OnWay s l c₀ out₀ r.functions (p + 1) 0 out'
   page-ends t =
-      let why : Stops (read_of s globals q) pg.functions_len (length out / 3) r.functions f.at r.index Stop.End = rw t at f.why in
-      moves on (p + 1) 0 (page-over s l p pg h opens _ f.at (omega (arith, why.0, room-is)) (omega (arith, why.1)))
+      let why : Stops read pg.functions_len (length out / 3) r.functions f.at r.index Stop.End = rw t at f.why in
+      moves on (p + 1) 0 (page-over s l p pg h opened _ f.at (omega (arith, why.0, room-is)) (omega (arith, why.1)))
 
   abbrev told : Why → Outcome
   told v = record { functions = r.functions; next = cursor p r.index; why = v; list = out' }
@@ -157,19 +167,15 @@ module _ {s : List ℕ} {l : Lists} {c₀ : Cursor} {out₀ out out' globals : L
       stops_at j v ej et =
           ap {B = Outcome} (λ (m : ℕ). record { functions = r.functions; next = cursor p m; why = v; list = out' }) ej ∙ stops on et
 
-      by-why : (v : Stop) → Stops (read_of s globals q) pg.functions_len (length out / 3) r.functions f.at r.index v → (v ≡ Stop.End → ⊥) → told (why_of v) ≡ fill_of s l c₀ out₀
+      by-why : (v : Stop) → Stops read pg.functions_len (length out / 3) r.functions f.at r.index v → (v ≡ Stop.End → ⊥) → told (why_of v) ≡ fill_of s l c₀ out₀
       by-why Stop.Full d u = stops_at f.at full d.1 (no_room s l _ _ (omega (arith, d.0, room-is)))
       by-why Stop.End d u = absurd (u refl)
       by-why (Stop.Refused error) d u =
           let there : f.at < pg.functions_len = omega (arith, d.1) in
           stops_at (f.at + 1) (refusal (number_of error)) d.3
-          (one-refused s l p pg h opens _ f.at (number_of error) (omega (arith, d.0, room-is)) there (sym (same f.at there) ∙ d.2))
+          (one-refused s l p pg h opened _ f.at (number_of error) (omega (arith, d.0, room-is)) there (sym (same f.at there) ∙ d.2))
 
 -- what a stop tells
 pub told_is : {r : Filled} {n page index : ℕ} {stop : Stop} {list : List ℕ} → r ≡ filled n page index stop
     → filled_told r list ≡ record { functions = n; next = cursor page index; why = why_of stop; list = list }
 told_is {list = list} e = ap (λ (x : Filled). filled_told x list) e
-
--- the other variants than `End`, by their tags
-pub not_end : (tag : Stop → ℕ) (w : Stop) → tag Stop.End ≡ 1 → (tag w ≡ 0) ⊎ (tag w ≡ 2) → w ≡ Stop.End → ⊥
-not_end tag w t u e = ⊎_elim (λ z. omega (arith, ap tag e)) (λ z. omega (arith, ap tag e)) u

@@ -5,3 +5,4 @@ pub mod Left
 pub mod One
 pub mod Together
 pub mod Numbers
+pub mod Calls

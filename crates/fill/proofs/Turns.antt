@@ -1,18 +1,15 @@
 -- The turns of a page's loop, on plain values.
 -- Assumes nothing.
-use Prim.Native.Nat.{ℕ, ◌+◌, ◌-◌, ◌/◌, ◌≤◌, ◌<◌, min}
+use Prim.Native.Nat.{ℕ, ◌+◌, ◌-◌, ◌/◌, ◌<◌, min}
 use mathlib.Core.Path.{◌≡◌, refl, ap, sym, ◌∙◌}
 use mathlib.Core.List.{List}
 use native.Mathlib.Omega.{arith}
 use lib.ListN.{length, length-set}
 use Rattle.raw.specs.declared.Error.{Error}
-use Rattle.raw.specs.Checked.{Checked}
+use Rattle.std.specs.Prelude.{Result, Ok}
+use Rattle.raw.specs.Checked.{Checked, told}
 use Rattle.entries.specs.declared.Function.{Function}
-use Rattle.entries.specs.declared.Answer.{Answer}
-use Rattle.entries.specs.Entries.{function_told}
-use Rattle.fill.specs.declared.Paged.{Paged}
-use Rattle.fill.specs.declared.Stop.{Stop}
-use Rattle.fill.specs.Block.{put_of, Wrote, none, more, Stops, paged_as, PageFilled, InPage}
+use Rattle.fill.specs.Block.{put_of, Wrote, none, more, InPage}
 
 -- what is written leaves the list as long as it was
 pub same_length : {f : ℕ → Checked Function} {n k₀ i₀ : ℕ} {out₀ : List ℕ} {k i : ℕ} {out : List ℕ} → Wrote f n k₀ i₀ out₀ k i out → length out ≡ length out₀
@@ -25,18 +22,6 @@ pub sets-out : (f : ℕ → Checked Function) (n k i : ℕ) (out : List ℕ) →
 sets-out f n k i out h small few stop e = record { wrote = none; turns = e; room = omega arith; index = small; few = few }
 
 module _ {f : ℕ → Checked Function} {n k₀ i₀ stop k i : ℕ} {out₀ out : List ℕ} (inv : InPage f n k₀ i₀ out₀ stop k i out) where
-  abbrev filled : Paged → Type 0
-  filled r = PageFilled f n k₀ i₀ out₀ r out
-
-  stops : (j : ℕ) (v : Stop) → j < 4294967296 → Stops f n (length out₀ / 3) k i j v → (r : Paged) → r ≡ paged_as k j v → filled r
-  stops j v small why r e = rw e (record { at = i; wrote = inv.wrote; room = inv.room; index = small; why = why })
-
-  pub page-ends : stop ≤ i → k < length out₀ / 3 → (r : Paged) → r ≡ paged_as k i Stop.End → filled r
-  page-ends t u = stops i Stop.End inv.index (u, omega (arith, inv.turns))
-
-  pub room-ends : length out₀ / 3 ≤ k → (r : Paged) → r ≡ paged_as k i Stop.Full → filled r
-  room-ends u = stops i Stop.Full inv.index (u, refl)
-
   module _ (t : i < stop) where
     there : i < n
     there = omega (arith, inv.turns)
@@ -44,16 +29,13 @@ module _ {f : ℕ → Checked Function} {n k₀ i₀ stop k i : ℕ} {out₀ out
     pub room-there : k < length out₀ / 3
     room-there = omega (arith, inv.turns)
 
-    module _ (w : Answer) (ew : function_told w ≡ f i) where
-      pub one_more : (x : Function) → w ≡ Answer.Function x → InPage f n k₀ i₀ out₀ stop (k + 1) (i + 1) (put_of out k x)
+    module _ (w : Result Function Error) (ew : told w ≡ f i) where
+      pub one_more : (x : Function) → w ≡ Ok x → InPage f n k₀ i₀ out₀ stop (k + 1) (i + 1) (put_of out k x)
       one_more x e =
           record {
-            wrote = more inv.wrote there (sym ew ∙ ap function_told e);
+            wrote = more inv.wrote there (sym ew ∙ ap told e);
             turns = omega (arith, inv.turns, room-there);
             room = omega (arith, room-there);
             index = omega (arith, there, inv.few);
             few = inv.few;
           }
-
-      pub one-refused : (error : Error) → w ≡ Answer.Refused error → (r : Paged) → r ≡ paged_as k (i + 1) (Stop.Refused error) → filled r
-      one-refused error e = stops (i + 1) (Stop.Refused error) (omega (arith, there, inv.few)) (room-there, there, sym ew ∙ ap function_told e, refl)

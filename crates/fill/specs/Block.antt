@@ -25,9 +25,6 @@ Stops f n room k at index Stop.Full = (room ≤ k) × (index ≡ at)
 Stops f n room k at index Stop.End = (k < room) × (n ≤ at)
 Stops f n room k at index (Stop.Refused e) = (k < room) × (at < n) × (f at ≡ refused (number_of e)) × (index ≡ at + 1)
 
-abbrev pub paged_as : ℕ → ℕ → Stop → Paged
-paged_as n index stop = record { functions = n; index = index; stop = stop }
-
 pub record PageFilled (f : ℕ → Checked Function) (n k₀ i₀ : ℕ) (out₀ : List ℕ) (r : Paged) (out : List ℕ) : Type 0 where
   pub at : ℕ
   pub wrote : Wrote f n k₀ i₀ out₀ r.functions at out

@@ -4,6 +4,7 @@ use Rattle.std.specs.Prelude.{ℕ, zero, suc, ◌*◌, ◌/◌, List, [], ◌∷
 use Rattle.raw.specs.declared.Lists.{Lists}
 use Rattle.raw.specs.Checked.{Checked, good, refused, either, number_of}
 use Rattle.raw.specs.Raw.{parse_of, grant_of}
+use Rattle.raw.specs.Section.{Standing}
 use Rattle.entries.specs.declared.Function.{Function}
 use Rattle.iterate.specs.declared.Cursor.{Cursor}
 use Rattle.iterate.specs.Iterate.{Step, answer, end, next_of}
@@ -82,6 +83,10 @@ fill_in s l c out = either (untouched c out) (λ m. fill_of s m c out) (grant_of
 
 unfoldable pub fill_on : List ℕ → Cursor → List ℕ → Outcome
 fill_on s c out = either (untouched c out) (λ m. fill_of s m c out) (parse_of s)
+
+-- for the helpers: over a section, or what refused it
+abbrev pub filled_on : Checked Standing → Cursor → List ℕ → Outcome
+filled_on x c out = either (untouched c out) (λ z. fill_of z.bytes.bytes z.lists c out) x
 
 abbrev pub why_of : Stop → Why
 why_of Stop.Full = full

@@ -1,17 +1,18 @@
 // Iteration by blocks: functions from a cursor on, three numbers each, into a lent list. A page is opened once.
 #![tactic(auto)]
 
-ghost use Rattle.std.specs.Prelude.{◌≡◌, ◌+◌, ◌*◌, ◌/◌, ◌≤◌, ◌<◌, min, length};
+ghost use Rattle.std.specs.Prelude.{◌≡◌, ◌+◌, ◌*◌, ◌/◌, ◌≤◌, ◌<◌, length};
+ghost use Rattle.raw.specs.Section.{section_told};
 ghost use Rattle.entries.specs.Placed.{read_of};
-ghost use Rattle.fill.specs.Block.{put_of, paged_as, PageFilled};
-ghost use Rattle.fill.specs.Fill.{filled, fill_of, fill_in, fill_on, filled_told};
+ghost use Rattle.fill.specs.Block.{put_of, PageFilled};
+ghost use Rattle.fill.specs.Fill.{filled, fill_of, fill_in, fill_on, filled_on, filled_told};
 
-use entries::{Answer, Function, Place};
+use entries::{Function, PageAt};
 use iterate::Cursor;
-use raw::{Error, Lists, Opened, Parsed};
+use raw::{Error, Lists, Section};
 
 // Why no more was written.
-#[derive(Clone, Copy)]
+#[derive(Clone, Copy, Debug, PartialEq, Eq)]
 pub enum Stop {
     Full,
     End,
@@ -19,7 +20,7 @@ pub enum Stop {
 }
 
 // How many functions were written, and the cursor for the next call.
-#[derive(Clone, Copy)]
+#[derive(Clone, Copy, Debug, PartialEq, Eq)]
 pub struct Filled {
     pub functions: usize,
     pub next: Cursor,
@@ -30,7 +31,7 @@ pub struct Filled {
 #[derive(Clone, Copy)]
 struct Paged {
     pub functions: usize,
-    pub index: usize,
+    pub index: u32,
     pub stop: Stop,
 }
 
@@ -45,99 +46,40 @@ fn put(out: &mut [u32], k: usize, f: Function)
     out[at + 2] = f.opcode;
 }
 
-fn least(a: usize, b: usize) -> usize
-    ensures { result ≡ min a b }
+// Functions of a page from an index on.
+fn fill_page(page: PageAt, from: u32, written: usize, out: &mut [u32]) -> Paged
+    requires { written < length out.old / 3 }
+    ensures { PageFilled (read_of page.entry.section.now page.entry.globals.now page.entry.place) page.entry.place.page.functions_len written from out.old result out.new }
 {
-    if a < b { a } else { b }
-}
-
-fn page_stopped(functions: usize, index: usize, stop: Stop) -> Paged
-    ensures { result ≡ paged_as functions index stop }
-{
+    let room = out.len() / 3;
+    let count = page.place.page.functions_len;
+    let stop = usize::min(count as usize, from as usize + (room - written)) as u32;
+    let mut functions = written;
+    for i in from..stop {
+        match page.function(i) {
+            Ok(f) => put(out, functions, f),
+            Err(error) => {
+                return Paged {
+                    functions,
+                    index: i + 1,
+                    stop: Stop::Refused(error),
+                };
+            }
+        }
+        functions += 1;
+    }
+    if functions < room {
+        return Paged {
+            functions,
+            index: count,
+            stop: Stop::End,
+        };
+    }
     Paged {
         functions,
-        index,
-        stop,
+        index: stop,
+        stop: Stop::Full,
     }
-}
-
-// Functions of a page from an index on.
-fn fill_page<'a>(
-    s: &'a [u8],
-    globals: &'a [u8],
-    q: Place,
-    from: u32,
-    written: usize,
-    out: &mut [u32],
-) -> Paged
-    requires { written < length out.old / 3 }
-    ensures { PageFilled (read_of s.now globals.now q) q.page.functions_len written from out.old result out.new }
-{
-    let room = out.len() / 3;
-    let mut k = written;
-    let mut i = from as usize;
-    let stop = least(q.page.functions_len as usize, i + (room - k));
-    while i < stop {
-        match entries::read(s, globals, q, i as u32) {
-            Answer::Refused(error) => {
-                return page_stopped(k, i + 1, Stop::Refused(error));
-            }
-            Answer::Function(f) => {
-                put(out, k, f);
-            }
-        }
-        k += 1;
-        i += 1;
-    }
-    if k < room {
-        return page_stopped(k, i, Stop::End);
-    }
-    page_stopped(k, i, Stop::Full)
-}
-
-fn fill_of(s: &[u8], lists: Lists, c: Cursor, out: &mut [u32]) -> Filled
-    ensures { filled_told result out.new ≡ fill_of s.now lists c out.old }
-{
-    let pages = lists.pages_len;
-    let room = out.len() / 3;
-    let globals = raw::global_opcodes(s, lists);
-    let list = raw::pages(s, lists);
-    let mut p = c.page;
-    let mut i = c.index;
-    let mut k: usize = 0;
-    while k < room {
-        if p as u64 + 1 >= pages as u64 {
-            let last = iterate::end_cursor(lists);
-            return stopped(k, last.page, last.index, Stop::End);
-        }
-        let e = raw::page_entry(list, p);
-        let offset = e.offset;
-        let next = e.next;
-        match raw::open_page(s, offset, e.first) {
-            Opened::Refused(error) => {
-                return stopped(k, p + 1, 0, Stop::Refused(error));
-            }
-            Opened::Page(page) => {
-                let place = Place {
-                    index: p,
-                    offset,
-                    next,
-                    page,
-                };
-                let r = fill_page(s, globals, place, i, k, out);
-                let stop = r.stop;
-                k = r.functions;
-                i = r.index as u32;
-                if let Stop::End = stop {
-                    p += 1;
-                    i = 0;
-                } else {
-                    return stopped(k, p, i, stop);
-                }
-            }
-        }
-    }
-    stopped(k, p, i, Stop::Full)
 }
 
 fn stopped(functions: usize, page: u32, index: u32, stop: Stop) -> Filled
@@ -150,29 +92,53 @@ fn stopped(functions: usize, page: u32, index: u32, stop: Stop) -> Filled
     }
 }
 
-// The functions from a cursor on, of lists that anyone may name, three numbers each (start, end, opcode), as many as the list has room for.
-pub fn fill_in(s: &[u8], lists: Lists, c: Cursor, out: &mut [u32]) -> Filled
-    ensures { filled_told result out.new ≡ fill_in s.now lists c out.old }
+// The functions of a section from a cursor on, three numbers each (start, end, opcode), as many as the list has room for.
+pub fn fill_of(section: Section, c: Cursor, out: &mut [u32]) -> Filled
+    ensures { filled_told result out.new ≡ fill_of section.entry.bytes.now section.entry.lists c out.old }
 {
-    match raw::grant(s, lists) {
-        Parsed::Whole(granted) => fill_of(s, granted, c, out),
-        Parsed::Refused(error) => Filled {
-            functions: 0,
-            next: c,
-            stop: Stop::Refused(error),
-        },
+    if out.len() / 3 == 0 {
+        return stopped(0, c.page, c.index, Stop::Full);
+    }
+    let last = iterate::end_cursor(section.lists);
+    let mut k = 0;
+    let mut i = c.index;
+    for p in c.page..last.page {
+        match iterate::open_at(section, p) {
+            Err(error) => return stopped(k, p + 1, 0, Stop::Refused(error)),
+            Ok(page) => {
+                let paged = fill_page(page, i, k, out);
+                k = paged.functions;
+                let Stop::End = paged.stop else {
+                    return stopped(k, p, paged.index, paged.stop);
+                };
+            }
+        }
+        i = 0;
+    }
+    stopped(k, last.page, last.index, Stop::End)
+}
+
+// The same where there is a section; where there is none, the list stays as it was.
+fn filled_on(section: Result<Section, Error>, c: Cursor, out: &mut [u32]) -> Filled
+    ensures { filled_told result out.new ≡ filled_on (section_told section.entry) c out.old }
+{
+    match section {
+        Ok(section) => fill_of(section, c, out),
+        Err(error) => stopped(0, c.page, c.index, Stop::Refused(error)),
     }
 }
 
+// The same of lists that anyone may name.
+#[tactic(auto, using(crate::proofs::Calls::over_section), unfolding(crate::specs::Fill::fill_in))]
+pub fn fill_in(s: &[u8], lists: Lists, c: Cursor, out: &mut [u32]) -> Filled
+    ensures { filled_told result out.new ≡ fill_in s.now lists c out.old }
+{
+    filled_on(Section::new(s, lists), c, out)
+}
+
+#[tactic(auto, using(crate::proofs::Calls::over_section), unfolding(crate::specs::Fill::fill_on))]
 pub fn fill(s: &[u8], c: Cursor, out: &mut [u32]) -> Filled
     ensures { filled_told result out.new ≡ fill_on s.now c out.old }
 {
-    match raw::parse(s) {
-        Parsed::Whole(lists) => fill_of(s, lists, c, out),
-        Parsed::Refused(error) => Filled {
-            functions: 0,
-            next: c,
-            stop: Stop::Refused(error),
-        },
-    }
+    filled_on(Section::parse(s), c, out)
 }

@@ -1,7 +1,8 @@
 pub mod Iteration
 pub mod Members
+pub mod Opened
 pub mod Loop
-pub mod Cases
+pub mod Calls
 pub mod One
 pub mod Left
 pub mod Numbers

@@ -1,10 +1,11 @@
 -- docs/FORMAT.md, 5.1 to 5.3: iteration, what a call tells at a cursor, and what the calls from the first cursor tell until the end.
 -- Assumes nothing.
-use Rattle.std.specs.Prelude.{ℕ, zero, suc, ◌+◌, ◌-◌, ◌≡◌, List, [], ◌∷◌, ◌++◌, cond, ltb}
+use Rattle.std.specs.Prelude.{ℕ, zero, suc, ◌+◌, ◌-◌, ◌≡◌, List, [], ◌∷◌, ◌++◌, cond, ltb, Option, Some, None}
 use Rattle.raw.specs.declared.Lists.{Lists}
 use Rattle.raw.specs.declared.Page.{Page}
-use Rattle.raw.specs.Checked.{Checked, good, refused, either, number_of}
+use Rattle.raw.specs.Checked.{Checked, good, refused, either, told}
 use Rattle.raw.specs.Raw.{parse_of, grant_of}
+use Rattle.raw.specs.Section.{Standing}
 use Rattle.entries.specs.declared.Function.{Function}
 use Rattle.entries.specs.Section.{opened_at, function_at}
 use Rattle.iterate.specs.declared.Cursor.{Cursor}
@@ -18,10 +19,13 @@ pub data Step : Type 0 where
   answer : Checked Function → Cursor → Step
   end : Cursor → Step
 
+abbrev pub stepped : Cursor → Checked (Option Function) → Step
+stepped c (good (Some f)) = answer (good f) c
+stepped c (good None) = end c
+stepped c (refused k) = answer (refused k) c
+
 abbrev pub next_told : Next → Step
-next_told (Next.Function c f) = answer (good f) c
-next_told (Next.Refused e c) = answer (refused (number_of e)) c
-next_told (Next.End c) = end c
+next_told n = stepped n.next (told n.function)
 
 -- 5.3: the last page's number, 0 if there are no pages, and index 0
 abbrev pub end_cursor : Lists → Cursor
@@ -48,6 +52,10 @@ next_in s l c = either (λ k. answer (refused k) c) (λ m. next_of s m c) (grant
 
 unfoldable pub next_on : List ℕ → Cursor → Step
 next_on s c = either (λ k. answer (refused k) c) (λ m. next_of s m c) (parse_of s)
+
+-- for the helpers: the call over a section, or what refused it
+abbrev pub called_on : Checked Standing → Cursor → Step
+called_on x c = either (λ k. answer (refused k) c) (λ z. next_of z.bytes.bytes z.lists c) x
 
 -- the calls from a cursor until the end answer these
 pub data Iterates (s : List ℕ) (l : Lists) : Cursor → List (Checked Function) → Type 0 where

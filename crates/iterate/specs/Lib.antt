@@ -1,2 +1,3 @@
 pub mod Iterate
+pub mod Opened
 pub mod Range

@@ -2,11 +2,10 @@
 -- Assumes nothing.
 use Rattle.std.specs.Prelude.{ℕ, ◌-◌, List, cond, eqb}
 use Rattle.raw.specs.declared.Lists.{Lists}
-use Rattle.raw.specs.Checked.{Checked, good, refused, either, number_of}
+use Rattle.raw.specs.Checked.{Checked, good, refused, either}
 use Rattle.raw.specs.Raw.{parse_of, grant_of}
 use Rattle.entries.specs.Section.{first_of}
 use Rattle.iterate.specs.declared.Range.{Range}
-use Rattle.iterate.specs.declared.Ranged.{Ranged}
 
 abbrev range : ℕ → ℕ → Range
 range a b = record { start = a; end = b }
@@ -21,7 +20,3 @@ range_in s l = either refused (λ m. good (range_of s m)) (grant_of s l)
 
 unfoldable pub range_on : List ℕ → Checked Range
 range_on s = either refused (λ m. good (range_of s m)) (parse_of s)
-
-abbrev pub range_told : Ranged → Checked Range
-range_told (Ranged.Range r) = good r
-range_told (Ranged.Refused e) = refused (number_of e)

@@ -1,48 +1,43 @@
 // Iteration by a cursor, and the range of addresses.
 #![tactic(auto)]
 
-ghost use Rattle.std.specs.Prelude.{◌≡◌, ◌+◌, ◌<◌};
-ghost use Rattle.raw.specs.Checked.{good};
-ghost use Rattle.raw.specs.Raw.{page_told};
-ghost use Rattle.entries.specs.Entries.{function_told};
-ghost use Rattle.entries.specs.Section.{opened_at, function_at};
-ghost use Rattle.iterate.specs.Iterate.{answer, end_cursor, next_of, next_in, next_on, next_told};
-ghost use Rattle.iterate.specs.Range.{range_of, range_in, range_on, range_told};
+ghost use Rattle.std.specs.Prelude.{◌≡◌};
+ghost use Rattle.reader.specs.Reader.{slice_told};
+ghost use Rattle.raw.specs.Checked.{told};
+ghost use Rattle.raw.specs.Section.{section_told};
+ghost use Rattle.iterate.specs.Iterate.{end_cursor, next_of, next_in, next_on, next_told, called_on};
+ghost use Rattle.iterate.specs.Range.{range_of, range_in, range_on};
+ghost use Rattle.iterate.specs.Opened.{opens, opened_told};
 
-use entries::{Answer, Function, Place};
-use raw::{Error, Lists, Opened, Page, Parsed};
+use entries::{Function, PageAt, Place};
+use raw::{Error, Lists, Section};
 
 // A page and the index of a function in it: any two numbers.
-#[derive(Clone, Copy)]
+#[derive(Clone, Copy, Debug, PartialEq, Eq)]
 pub struct Cursor {
     pub page: u32,
     pub index: u32,
 }
 
-#[derive(Clone, Copy)]
-pub enum Next {
-    Function { next: Cursor, function: Function },
-    Refused { error: Error, next: Cursor },
-    End { next: Cursor },
+// What a call answers, none at the end; and the cursor for the next call.
+#[derive(Clone, Copy, Debug, PartialEq, Eq)]
+pub struct Next {
+    pub next: Cursor,
+    pub function: Result<Option<Function>, Error>,
 }
 
-#[derive(Clone, Copy)]
+#[derive(Clone, Copy, Debug, PartialEq, Eq)]
 pub struct Range {
     pub start: u32,
     pub end: u32,
 }
 
-#[derive(Clone, Copy)]
-pub enum Ranged {
-    Range(Range),
-    Refused(Error),
-}
-
-fn range_of(s: &[u8], lists: Lists) -> Range
-    ensures { result ≡ range_of s.now lists }
+#[tactic(auto, using(reader::proofs::Laws::bytes_of), unfolding(crate::specs::Range::range_of, entries::specs::Section::first_of))]
+fn range_of(section: Section) -> Range
+    ensures { result ≡ range_of section.entry.bytes.now section.entry.lists }
 {
-    let n = lists.pages_len;
-    let pages = raw::pages(s, lists);
+    let n = section.lists.pages_len;
+    let pages = section.pages();
     if n == 0 {
         return Range { start: 0, end: 0 };
     }
@@ -53,125 +48,110 @@ fn range_of(s: &[u8], lists: Lists) -> Range
 }
 
 // The range of addresses between the first page and the last, of lists that anyone may name.
-pub fn address_range_in(s: &[u8], lists: Lists) -> Ranged
-    ensures { range_told result ≡ range_in s.now lists }
+#[tactic(auto, unfolding(crate::specs::Range::range_in))]
+pub fn address_range_in(s: &[u8], lists: Lists) -> Result<Range, Error>
+    ensures { told result ≡ range_in s.now lists }
 {
-    match raw::grant(s, lists) {
-        Parsed::Whole(granted) => Ranged::Range(range_of(s, granted)),
-        Parsed::Refused(error) => Ranged::Refused(error),
-    }
+    Ok(range_of(Section::new(s, lists)?))
 }
 
-pub fn address_range(s: &[u8]) -> Ranged
-    ensures { range_told result ≡ range_on s.now }
+#[tactic(auto, unfolding(crate::specs::Range::range_on))]
+pub fn address_range(s: &[u8]) -> Result<Range, Error>
+    ensures { told result ≡ range_on s.now }
 {
-    match raw::parse(s) {
-        Parsed::Whole(lists) => Ranged::Range(range_of(s, lists)),
-        Parsed::Refused(error) => Ranged::Refused(error),
-    }
-}
-
-fn answered(a: Answer, next: Cursor) -> Next
-    ensures { next_told result ≡ answer (function_told a) next }
-{
-    match a {
-        Answer::Function(function) => Next::Function { next, function },
-        Answer::Refused(error) => Next::Refused { error, next },
-    }
+    Ok(range_of(Section::parse(s)?))
 }
 
 // Where a cursor stands at the end: at the last page.
 pub fn end_cursor(lists: Lists) -> Cursor
     ensures { result ≡ end_cursor lists }
 {
-    let pages = lists.pages_len;
-    if pages == 0 {
-        return Cursor { page: 0, index: 0 };
-    }
     Cursor {
-        page: pages - 1,
+        page: lists.pages_len.saturating_sub(1),
         index: 0,
     }
 }
 
-// Page p, opened whole.
-fn open_at(s: &[u8], lists: Lists, p: u32) -> Opened
-    ensures { page_told result ≡ opened_at s.now lists p }
+// Page p, opened whole. For speed laid into its callers.
+#[inline(always)]
+pub fn open_at<'a>(section: Section<'a>, p: u32) -> Result<PageAt<'a>, Error>
+    ensures { opened_told result ≡ opens (slice_told section.entry.bytes) section.entry.lists p }
 {
-    let pages = raw::pages(s, lists);
-    let e = raw::page_entry(pages, p);
-    raw::open_page(s, e.offset, e.first)
+    let entry = raw::page_entry(section.pages(), p);
+    let offset = entry.offset;
+    let page = raw::open_page(section.bytes, offset, entry.first)?;
+    Ok(PageAt {
+        section: section.bytes,
+        globals: section.global_opcodes(),
+        place: Place {
+            index: p,
+            offset,
+            next: entry.next,
+            page,
+        },
+    })
 }
 
-// Function i of page p, which was opened.
-fn function_at(s: &[u8], lists: Lists, p: u32, page: Page, i: u32) -> Answer
-    requires { (opened_at s.now lists p ≡ good page) × (i < page.functions_len) }
-    ensures { function_told result ≡ function_at s.now lists p page i }
+fn next_of(section: Section, c: Cursor) -> Next
+    ensures { next_told result ≡ next_of section.entry.bytes.now section.entry.lists c }
 {
-    let pages = raw::pages(s, lists);
-    let e = raw::page_entry(pages, p);
-    let place = Place {
-        index: p,
-        offset: e.offset,
-        next: e.next,
-        page,
-    };
-    entries::read(s, raw::global_opcodes(s, lists), place, i)
-}
-
-fn next_of(s: &[u8], lists: Lists, c: Cursor) -> Next
-    ensures { next_told result ≡ next_of s.now lists c }
-{
-    let pages = lists.pages_len;
-    let mut p = c.page;
+    let last = end_cursor(section.lists);
     let mut i = c.index;
-    while (p as u64 + 1) < pages as u64 {
-        match open_at(s, lists, p) {
-            Opened::Refused(error) => {
-                return Next::Refused {
-                    error,
+    for p in c.page..last.page {
+        match open_at(section, p) {
+            Err(error) => {
+                return Next {
                     next: Cursor {
                         page: p + 1,
                         index: 0,
                     },
+                    function: Err(error),
                 };
             }
-            Opened::Page(pg) => {
-                let count = pg.functions_len;
-                if i < count {
-                    let a = function_at(s, lists, p, pg, i);
-                    return answered(
-                        a,
-                        Cursor {
+            Ok(page) => {
+                if i < page.place.page.functions_len {
+                    return Next {
+                        next: Cursor {
                             page: p,
                             index: i + 1,
                         },
-                    );
+                        function: page.function(i).map(Some),
+                    };
                 }
             }
         }
-        p += 1;
         i = 0;
     }
-    let next = end_cursor(lists);
-    Next::End { next }
+    Next {
+        next: last,
+        function: Ok(None),
+    }
+}
+
+// The call at a cursor; where there is no section, the cursor is handed back.
+fn called_on(section: Result<Section, Error>, c: Cursor) -> Next
+    ensures { next_told result ≡ called_on (section_told section.entry) c }
+{
+    match section {
+        Ok(section) => next_of(section, c),
+        Err(error) => Next {
+            next: c,
+            function: Err(error),
+        },
+    }
 }
 
 // What the call at a cursor answers, with the cursor for the next call; of lists that anyone may name.
+#[tactic(auto, using(crate::proofs::Calls::over_section), unfolding(crate::specs::Iterate::next_in))]
 pub fn next_function_in(s: &[u8], lists: Lists, c: Cursor) -> Next
     ensures { next_told result ≡ next_in s.now lists c }
 {
-    match raw::grant(s, lists) {
-        Parsed::Whole(granted) => next_of(s, granted, c),
-        Parsed::Refused(error) => Next::Refused { error, next: c },
-    }
+    called_on(Section::new(s, lists), c)
 }
 
+#[tactic(auto, using(crate::proofs::Calls::over_section), unfolding(crate::specs::Iterate::next_on))]
 pub fn next_function(s: &[u8], c: Cursor) -> Next
     ensures { next_told result ≡ next_on s.now c }
 {
-    match raw::parse(s) {
-        Parsed::Whole(lists) => next_of(s, lists, c),
-        Parsed::Refused(error) => Next::Refused { error, next: c },
-    }
+    called_on(Section::parse(s), c)
 }

@@ -3,27 +3,31 @@
 use Prim.Native.Nat.{ℕ, ◌+◌, ◌-◌, ◌*◌, ◌/◌, ◌^◌, ◌≤◌, ◌<◌, min}
 use mathlib.Core.Path.{◌≡◌, refl, ap, sym, ◌∙◌}
 use mathlib.Core.List.{List, [], ◌++◌, map}
-use mathlib.Core.Bool.{Bool, true, false}
+use mathlib.Core.Logic.{◌⊎◌, inl, inr}
+use mathlib.Core.Bool.{Bool, true, false, cond, ◌||◌}
 use native.Mathlib.Omega.{arith}
 use borrow.Author.Tests.{lt-ltb, le-ltb, lt-leb, le-leb, leb-true}
 use borrow.Rule.Slice.PartMut.{mid_of, put_mid}
-use lib.Dec.{leb}
-use lib.ListN.{length, take, drop}
-use lib.Seq.{length-take-le}
+use lib.Dec.{leb, ltb}
+use lib.ListN.{length, drop}
+use Rattle.std.specs.Prelude.{Result, Ok, Err, IsErrAnd}
 use Rattle.raw.specs.declared.Lists.{Lists}
 use Rattle.raw.specs.declared.Error.{Error}
-use Rattle.raw.specs.Checked.{Checked, good, refused, ◌>>◌, check, number_of}
+use Rattle.raw.specs.Checked.{Checked, good, refused, ◌>>◌, either, check, number_of}
+use Rattle.raw.specs.declared.section.Section.{Section}
+use Rattle.raw.specs.Section.{Standing, standing}
+use Rattle.reader.specs.Reader.{Slice}
 use Rattle.raw.specs.Raw.{version_of, parse_of}
 use Rattle.raw.proofs.Numbers.{said-15, number-of}
-use Rattle.listing.specs.Listing.{lines_of, refused_of, end_of, Told, written, over, whole_of, lines_in}
+use Rattle.listing.specs.Listing.{lines_of, refused_of, end_of, written, over, whole_of, lines_in}
 use Rattle.fill.specs.declared.Filled.{Filled}
 use Rattle.fill.specs.declared.Stop.{Stop}
-use Rattle.fill.specs.Fill.{Taken, taken_of, written_over, Outcome as Filling, outcome, fill_in, why_of, filled_told}
-use Rattle.fill.proofs.Left.{few, told}
+use Rattle.fill.specs.Fill.{Taken, taken_of, written_over, Outcome as Filling, outcome, fill_of, why_of, filled_told}
+use Rattle.fill.proofs.Left.{few}
 use Rattle.lister.specs.declared.Place.{Place}
-use Rattle.lister.specs.declared.Accepted.{Accepted}
+use Rattle.lister.specs.declared.Refusal.{Refusal}
 use Rattle.lister.specs.Lister.{accepted_of, answers_text, listing_of}
-use Rattle.lister.specs.Block.{place_at, Outcome, room_in, counted, stop_text, is_end, taken_block, block_of, accepted_told}
+use Rattle.lister.specs.Block.{place_at, Outcome, room_in, counted, stop_text, is_end, taken_block, refused_block, put, block_of, block_on, accepted_told}
 use Rattle.lister.proofs.Texts.{fits_whole, length-end, length-refused, length_functions, lines_are, bytes_of, starts-inside, fewer_bytes, behind}
 
 -- an input of at most 65,536 bytes is listed as it parses
@@ -36,16 +40,20 @@ module _ (s : List ℕ) where
   unfolding accepted_of
   short h e = simp (le-leb _ _ h) e
 
--- a stop's line, by what the stop is
-pub by-stop : (n : ℕ) (out : List ℕ) {x y : Stop} (t : Told) → x ≡ y → t ≡ whole_of (stop_text n (why_of y)) out → t ≡ whole_of (stop_text n (why_of x)) out
-by-stop n out t e q = q ∙ ap (λ (w : Stop). whole_of (stop_text n (why_of w)) out) (sym e)
+-- what refuses a section refuses its listing, by the same number
+pub passed_on : (r : Result Section Refusal) (e : Error) → IsErrAnd r (λ x. x ≡ Refusal.Section e) → accepted_told r ≡ refused (number_of e)
+passed_on (Ok x) e h = absurd h
+passed_on (Err d) e h = ap (λ (x : Refusal). accepted_told (Err x)) h
 
-pub by-refusal : (n : ℕ) (out : List ℕ) {x : Stop} (t : Told) (e : Error) (k : ℕ) → x ≡ Stop.Refused e → k ≡ number_of e → t ≡ whole_of (refused_of k) out → t ≡ whole_of (stop_text n (why_of x)) out
-by-refusal n out t e k q i w = by-stop n out t q (w ∙ ap (λ (j : ℕ). whole_of (refused_of j) out) i)
-
+-- after a block that is full
 pub nothing_written : (out : List ℕ) → written 0 out ≡ whole_of [] out
 unfolding over
 nothing_written out = sym (fits_whole [] out (omega arith))
+
+pub not-ended : (x : Stop) → (x ≡ Stop.End → ⊥) → false ≡ is_end (why_of x)
+not-ended Stop.Full h = refl
+not-ended Stop.End h = absurd (h refl)
+not-ended (Stop.Refused e) h = refl
 
 length-stop : (n : ℕ) → n < 2 ^ 64 → (x : Stop) → length (stop_text n (why_of x)) ≤ 25
 length-stop n h Stop.Full = omega arith
@@ -70,13 +78,9 @@ module _ (k : ℕ) (h : k < 256) (out : List ℕ) (room : 52 ≤ length out) (n 
     pub refusal-written : written (n + m) (put_mid n (length l - n) l r) ≡ over (refused_of k ++ end_of 0) out
     refusal-written = behind out (refused_of k) (end_of 0) refusal-room refusal-over w
 
--- as many numbers are lent as a block has room for
-pub numbers-lent : (list : List ℕ) (k n : ℕ) → 3072 ≡ length list → k ≡ n → n ≤ 1024 → length (take (3 * k) list) ≡ 3 * n
-numbers-lent list k n e q h = rw (← q) (length-take-le (3 * k) list (omega arith))
-
 -- A block of functions: they were filled into a list, and lines and the line after them were written.
-module _ (s : List ℕ) (l : Lists) (p : parse_of s ≡ good l) (at : Place) (numbers out : List ℕ) (room : 52 ≤ length out) (many : length numbers ≡ 3 * room_in out)
-    (b : Filled) (list : List ℕ) (e : filled_told b list ≡ fill_in s l at.cursor numbers) where
+module _ (s : List ℕ) (l : Lists) (at : Place) (numbers out : List ℕ) (room : 52 ≤ length out) (many : length numbers ≡ 3 * room_in out)
+    (b : Filled) (list : List ℕ) (e : filled_told b list ≡ fill_of s l at.cursor numbers) where
   abbrev t : Taken
   t = taken_of s l (room_in out) at.cursor
 
@@ -84,9 +88,10 @@ module _ (s : List ℕ) (l : Lists) (p : parse_of s ≡ good l) (at : Place) (nu
   lines = answers_text (map good t.written)
 
   filling : filled_told b list ≡ outcome t numbers
+  unfolding fill_of
   filling =
       let q : length numbers / 3 ≡ room_in out = omega arith in
-      told s l p at.cursor numbers b list e ∙ ap (λ (n : ℕ). outcome (taken_of s l n at.cursor) numbers) q
+      e ∙ ap (λ (n : ℕ). outcome (taken_of s l n at.cursor) numbers) q
 
   how-many : b.functions ≡ length t.written
   how-many = ap (λ (o : Filling). o.functions) filling
@@ -124,30 +129,34 @@ module _ (s : List ℕ) (l : Lists) (p : parse_of s ≡ good l) (at : Place) (nu
             simp (both.0, both.1, q, ap (λ (o : Filling). o.why) filling, ap (λ (o : Filling). o.next) filling, c, how-many)
 
 -- What a call answers at a place: nothing after the end, or where there is no room.
-module _ (s : List ℕ) (at : Place) (out : List ℕ) where
-  pub after-the-end : at.ended ≡ true → ◌≡◌ {A = Outcome} (record { written = 0; next = at; text = out }) (block_of s at out)
-  unfolding block_of
-  after-the-end e = simp e
+module _ (a : Checked Standing) (at : Place) (out : List ℕ) where
+  pub nothing-more : (at.ended ≡ true) ⊎ ((at.ended ≡ false) × (length out < 52)) → ◌≡◌ {A = Outcome} (record { written = 0; next = at; text = out }) (block_on a at out)
+  unfolding block_on
+  nothing-more (inl e) = simp e
+  nothing-more (inr h) = simp (h.0, lt-ltb _ _ h.1)
 
   module _ (e : at.ended ≡ false) where
-    pub no_room : length out < 52 → ◌≡◌ {A = Outcome} (record { written = 0; next = at; text = out }) (block_of s at out)
-    unfolding block_of
-    no_room h = simp (e, lt-ltb _ _ h)
-
-    module _ (room : 52 ≤ length out) (a : Accepted) (q : accepted_told a ≡ accepted_of s) where
-      pub where-refused : (k : ℕ) → a ≡ Accepted.Refused k → (n : ℕ) (r : List ℕ) → written n r ≡ over (refused_of k ++ end_of 0) out
-          → ◌≡◌ {A = Outcome} (record { written = n; next = place_at at.cursor at.functions true; text = r }) (block_of s at out)
-      unfolding block_of
+    module _ (room : 52 ≤ length out) where
+      pub where-refused : (k : ℕ) → refused k ≡ a → (n : ℕ) (r : List ℕ) → written n r ≡ over (refused_of k ++ end_of 0) out
+          → ◌≡◌ {A = Outcome} (record { written = n; next = place_at at.cursor at.functions true; text = r }) (block_on a at out)
+      unfolding block_on
       where-refused k f n r w =
-          let same : accepted_of s ≡ refused k = sym q ∙ ap accepted_told f in
           let text = bytes_of (refused_of k ++ end_of 0) out w in
-          simp (e, le-ltb _ _ room, same, text.0, text.1)
+          simp (e, le-ltb _ _ room, sym f, text.0, text.1)
 
-      pub where-whole : (l : Lists) → a ≡ Accepted.Whole l → {o : Outcome} → o ≡ taken_block at.functions (taken_of s l (room_in out) at.cursor) out → o ≡ block_of s at out
-      unfolding block_of
-      where-whole l f w =
-          let same : accepted_of s ≡ good l = sym q ∙ ap accepted_told f in
-          simp (e, le-ltb _ _ room, same) w
+      pub where-whole : (z : Standing) → good z ≡ a → {o : Outcome} → o ≡ taken_block at.functions (taken_of z.bytes.bytes z.lists (room_in out) at.cursor) out → o ≡ block_on a at out
+      unfolding block_on
+      where-whole z f w = simp (e, le-ltb _ _ room, sym f) w
+
+-- over the input
+pub over_input : (x : Slice) (a : Checked Standing) (at : Place) (out : List ℕ) → a ≡ standing x (accepted_of x.bytes) → block_on a at out ≡ block_of x.bytes at out
+unfolding block_on block_of
+over_input x a at out e = ap (λ (b : Checked Standing). block_on b at out) e ∙ by (accepted_of x.bytes)
+  where
+    by : (g : Checked Lists) → block_on (standing x g) at out
+        ≡ cond (at.ended || ltb (length out) 52) (put [] at out) (either (refused_block at out) (λ l. taken_block at.functions (taken_of x.bytes l (room_in out) at.cursor) out) g)
+    by (good l) = refl
+    by (refused k) = refl
 
 -- an input that is listed has few bytes, and parses
 pub accepted-parses : (s : List ℕ) (l : Lists) → accepted_of s ≡ good l → (parse_of s ≡ good l) × (length s ≤ 65536)

@@ -1,8 +1,11 @@
 -- The listing (docs/FORMAT.md, 12) block after block: what one call writes into the bytes that it is lent, and the place from which the next one goes on.
 -- Assumes nothing.
-use Rattle.std.specs.Prelude.{ℕ, ◌+◌, ◌-◌, ◌/◌, min, List, [], ◌++◌, map, Bool, true, false, cond, ◌||◌, ltb, length, drop}
-use Rattle.raw.specs.declared.Lists.{Lists}
+use Rattle.std.specs.Prelude.{ℕ, ◌+◌, ◌-◌, ◌/◌, min, List, [], ◌++◌, map, Bool, true, false, cond, ◌||◌, ltb, length, drop, Result, Ok, Err}
+use Rattle.reader.specs.Reader.{slice_told}
+use Rattle.raw.specs.declared.section.Section.{Section}
+use Rattle.raw.specs.Checked as checked
 use Rattle.raw.specs.Checked.{Checked, good, refused, either}
+use Rattle.raw.specs.Section.{Standing}
 use Rattle.iterate.specs.declared.Cursor.{Cursor}
 use Rattle.iterate.specs.Iterate.{cursor}
 use Rattle.listing.specs.Listing.{refused_of, end_of}
@@ -10,7 +13,7 @@ use Rattle.fill.specs.Fill.{Why, full, ended, refusal, Taken, taken_of}
 use Rattle.lister.specs.Lister.{accepted_of, answers_text}
 use Rattle.lister.specs.declared.Place.{Place}
 use Rattle.lister.specs.declared.Block.{Block}
-use Rattle.lister.specs.declared.Accepted.{Accepted}
+use Rattle.lister.specs.declared.Refusal.{Refusal}
 
 abbrev pub place_at : Cursor → ℕ → Bool → Place
 place_at c n e = record { cursor = c; functions = n; ended = e }
@@ -67,6 +70,17 @@ block_of s at out =
 abbrev pub block_told : Block → List ℕ → Outcome
 block_told b text = record { written = b.written; next = b.next; text = text }
 
-abbrev pub accepted_told : Accepted → Checked Lists
-accepted_told (Accepted.Whole l) = good l
-accepted_told (Accepted.Refused k) = refused k
+-- for the helpers: over a section, or the number of what refused it
+unfoldable pub block_on : Checked Standing → Place → List ℕ → Outcome
+block_on a at out =
+    cond (at.ended || ltb (length out) 52) (put [] at out)
+    (either (refused_block at out) (λ z. taken_block at.functions (taken_of z.bytes.bytes z.lists (room_in out) at.cursor) out) a)
+
+-- an input that is too long has a number of its own
+abbrev pub number_of : Refusal → ℕ
+number_of Refusal.TooLong = 30
+number_of (Refusal.Section e) = checked.number_of e
+
+abbrev pub accepted_told : Result Section Refusal → Checked Standing
+accepted_told (Ok x) = good (record { bytes = slice_told x.bytes; lists = x.lists })
+accepted_told (Err r) = refused (number_of r)

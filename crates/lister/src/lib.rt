@@ -1,37 +1,58 @@
 // The listing of a section (docs/FORMAT.md, 12), block after block: the program `functions` without its input.
 #![tactic(auto)]
 
-ghost use Rattle.std.specs.Prelude.{◌≡◌, ◌+◌, ◌-◌, ◌*◌, ◌/◌, ◌≤◌, min, ◌++◌, length};
-ghost use Rattle.raw.specs.Checked.{good};
-ghost use Rattle.raw.specs.Raw.{parse_of};
+ghost use Rattle.std.specs.Prelude.{◌≡◌, ◌+◌, ◌*◌, ◌≤◌, ◌++◌, length};
+ghost use Rattle.reader.specs.Reader.{slice_told};
+ghost use Rattle.raw.specs.Section.{standing};
 ghost use Rattle.fill.specs.Fill.{why_of, taken_of};
 ghost use Rattle.listing.specs.Listing.{written, over, whole_of, refused_of, end_of};
+ghost use Rattle.lister.specs.declared.Refusal.TheVariants.{Section as OfSection};
 ghost use Rattle.lister.specs.Lister.{accepted_of, listing_of};
-ghost use Rattle.lister.specs.Block.{start, room_in, counted, stop_text, is_end, taken_block, block_of, block_told, accepted_told};
+ghost use Rattle.lister.specs.Block.{start, room_in, counted, stop_text, is_end, taken_block, block_of, block_on, block_told, number_of, accepted_told};
 
 use fill::Stop;
 use iterate::Cursor;
-use raw::{Lists, Parsed};
+use raw::{Error, Section};
 use streams::say;
 
 // Where a listing stands: the cursor of the next call, the functions so far, and whether the end is written.
-#[derive(Clone, Copy)]
+#[derive(Clone, Copy, Debug, PartialEq, Eq)]
 pub struct Place {
     pub cursor: Cursor,
     pub functions: u64,
     pub ended: bool,
 }
 
-#[derive(Clone, Copy)]
+#[derive(Clone, Copy, Debug, PartialEq, Eq)]
 pub struct Block {
     pub written: usize,
     pub next: Place,
 }
 
-#[derive(Clone, Copy)]
-enum Accepted {
-    Whole(Lists),
-    Refused(u8),
+// Why an input is not listed.
+#[derive(Clone, Copy, Debug, PartialEq, Eq)]
+enum Refusal {
+    TooLong,
+    Section(Error),
+}
+
+impl Refusal {
+    fn number(self) -> u8
+        ensures { result ≡ number_of self }
+    {
+        match self {
+            Refusal::TooLong => 30,
+            Refusal::Section(error) => error.number(),
+        }
+    }
+}
+
+impl From<Error> for Refusal {
+    ghost from_gives = { λ error refusal. refusal ≡ OfSection error };
+
+    fn from(error: Error) -> Refusal {
+        Refusal::Section(error)
+    }
 }
 
 // Before the first block.
@@ -45,16 +66,13 @@ pub fn start_place() -> Place
     }
 }
 
-fn accept(s: &[u8]) -> Accepted
-    ensures { accepted_told result ≡ accepted_of s.now }
+fn accept(s: &[u8]) -> Result<Section, Refusal>
+    ensures { accepted_told result ≡ standing (slice_told s.entry) (accepted_of s.now) }
 {
     if 65536 < s.len() {
-        return Accepted::Refused(30);
+        return Err(Refusal::TooLong);
     }
-    match raw::parse(s) {
-        Parsed::Whole(lists) => Accepted::Whole(lists),
-        Parsed::Refused(error) => Accepted::Refused(error.number()),
-    }
+    Ok(Section::parse(s)?)
 }
 
 // Three numbers for each of 1,024 functions, and the text of a block of them; only their lengths matter.
@@ -70,34 +88,8 @@ fn room_for_text() -> [u8; 27673]
     [0u8; 27673]
 }
 
-fn room_in(n: usize) -> usize
-    requires { 52 ≤ n }
-    ensures { result ≡ min 1024 ((n - 25) / 27) }
-{
-    let lines = (n - 25) / 27;
-    if lines < 1024 { lines } else { 1024 }
-}
-
-fn count(before: u64, more: usize) -> u64
-    ensures { result ≡ counted before more }
-{
-    if u64::MAX - before < more as u64 {
-        return u64::MAX;
-    }
-    before + more as u64
-}
-
-fn is_end(stop: Stop) -> bool
-    ensures { result ≡ is_end (why_of stop) }
-{
-    match stop {
-        Stop::Full => false,
-        Stop::End => true,
-        Stop::Refused(_) => false,
-    }
-}
-
 // What stands after a block's functions.
+#[tactic(auto, using(crate::proofs::Cases::nothing_written))]
 fn write_stop(stop: Stop, functions: u64, out: &mut [u8]) -> usize
     ensures { written result out.new ≡ whole_of (stop_text functions (why_of stop)) out.old }
 {
@@ -118,25 +110,45 @@ fn write_refusal(number: u8, out: &mut [u8]) -> usize
 }
 
 // The functions from a place on, three numbers each into one list and a line each into the other, and the line after them.
-fn write_functions(s: &[u8], lists: Lists, at: Place, numbers: &mut [u32], out: &mut [u8]) -> Block
-    requires { (parse_of s.now ≡ good lists) × (52 ≤ length out.old) × (length numbers.old ≡ 3 * room_in out.old) }
-    ensures { block_told result out.new ≡ taken_block at.functions (taken_of s.now lists (room_in out.old) at.cursor) out.old }
+fn write_functions(section: Section, at: Place, numbers: &mut [u32], out: &mut [u8]) -> Block
+    requires { (52 ≤ length out.old) × (length numbers.old ≡ 3 * room_in out.old) }
+    ensures { block_told result out.new ≡ taken_block at.functions (taken_of section.entry.bytes.now section.entry.lists (room_in out.old) at.cursor) out.old }
 {
-    let cursor = at.cursor;
-    let block = fill::fill_in(s, lists, cursor, numbers);
-    let next = block.next;
+    let block = fill::fill_of(section, at.cursor, numbers);
     let stop = block.stop;
-    let functions = count(at.functions, block.functions);
+    let functions = at.functions.saturating_add(block.functions as u64);
     let n = listing::write_lines(numbers, block.functions, out);
     let rest = write_stop(stop, functions, &mut out[n..]);
-    let ended = is_end(stop);
     Block {
         written: n + rest,
         next: Place {
-            cursor: next,
+            cursor: block.next,
             functions,
-            ended,
+            ended: matches!(stop, Stop::End),
         },
+    }
+}
+
+// The next block of the listing of an input that was accepted or not.
+fn write_block_on(accepted: Result<Section, Refusal>, at: Place, out: &mut [u8]) -> Block
+    ensures { block_told result out.new ≡ block_on (accepted_told accepted.entry) at out.old }
+{
+    if at.ended || out.len() < 52 {
+        return Block {
+            written: 0,
+            next: at,
+        };
+    }
+    match accepted {
+        Err(refusal) => Block {
+            written: write_refusal(refusal.number(), out),
+            next: Place { ended: true, ..at },
+        },
+        Ok(section) => {
+            let mut numbers = room_for_numbers();
+            let n = 3 * usize::min(1024, (out.len() - 25) / 27);
+            write_functions(section, at, &mut numbers[..n], out)
+        }
     }
 }
 
@@ -144,35 +156,7 @@ fn write_functions(s: &[u8], lists: Lists, at: Place, numbers: &mut [u32], out: 
 pub fn write_block(s: &[u8], at: Place, out: &mut [u8]) -> Block
     ensures { block_told result out.new ≡ block_of s.now at out.old }
 {
-    let cursor = at.cursor;
-    let functions = at.functions;
-    if at.ended {
-        return Block {
-            written: 0,
-            next: at,
-        };
-    }
-    if out.len() < 52 {
-        return Block {
-            written: 0,
-            next: at,
-        };
-    }
-    match accept(s) {
-        Accepted::Refused(number) => Block {
-            written: write_refusal(number, out),
-            next: Place {
-                cursor,
-                functions,
-                ended: true,
-            },
-        },
-        Accepted::Whole(lists) => {
-            let mut numbers = room_for_numbers();
-            let n = 3 * room_in(out.len());
-            write_functions(s, lists, at, &mut numbers[..n], out)
-        }
-    }
+    write_block_on(accept(s), at, out)
 }
 
 // Hands a block on to standard output, unless one before it failed; answers whether none has. At the first failure a line on
@@ -193,15 +177,16 @@ fn hand_on(rt: &(impl Print + Eprint), before: bool, text: &[u8]) -> bool {
 pub fn list(rt: &(impl Print + Eprint), s: &[u8]) -> u64
     ensures { result ≡ counted 0 (length (listing_of s.now)) }
 {
+    let accepted = accept(s);
     let mut text = room_for_text();
     let mut at = start_place();
-    let mut total: u64 = 0;
+    let mut total = 0u64;
     let mut whole = true;
     while !at.ended {
-        let block = write_block(s, at, &mut text);
+        let block = write_block_on(accepted, at, &mut text);
         let n = block.written;
         whole = hand_on(rt, whole, reader::part(&text, 0, n));
-        total = count(total, n);
+        total = total.saturating_add(n as u64);
         at = block.next;
     }
     total

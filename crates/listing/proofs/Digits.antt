@@ -1,25 +1,17 @@
--- Digits: how many there are, what reads back, and how many places a number has in decimal.
+-- Digits: how many there are, how they are written, and how many places a number has in decimal.
 -- Assumes nothing.
-use Prim.Native.Nat.{ℕ, zero, suc, ◌+◌, ◌*◌, ◌/◌, ◌%◌, ◌^◌, ◌≤◌, ◌<◌}
+use Prim.Native.Nat.{ℕ, zero, suc, ◌+◌, ◌-◌, ◌*◌, ◌/◌, ◌%◌, ◌^◌, ◌≤◌, ◌<◌, max}
 use mathlib.Core.Path.{◌≡◌, refl, ap, sym, ◌∙◌}
-use mathlib.Core.List.{[], ◌∷◌, ◌++◌, append_assoc, append-nil}
-use mathlib.Core.Bool.{cond}
-use native.Mathlib.Nat.{add-zero, add-suc, pow-zero, pow-suc, pow-succ', div-one, div-div-eq-div-mul}
+use mathlib.Core.List.{List, [], ◌∷◌, ◌++◌, append_assoc, append-nil}
+use native.Mathlib.Nat.{pow-suc, one-le-pow}
+use native.Mathlib.Numerals.{add-one}
 use native.Mathlib.Omega.{arith}
 use native.Mathlib.Decide.{dec_lt}
 use borrow.Author.Tests.{lt-ltb, le-ltb}
-use lib.Dec.{ltb}
-use lib.ListN.{length, get_or, length-append, get_or-append}
+use lib.ListN.{length, get_or, set, drop, length-append, get_or-append}
+use lib.Seq.{drop-length}
+use Rattle.std.proofs.lemmas.List.{drop-set}
 use Rattle.listing.specs.Listing.{digit_of, digits_of, places_in, places_of}
-
--- a digit is its number, further on by 39 letters from ten on
-pub letter : (d : ℕ) → d < 16 → d + 48 + 39 * ((d + 6) / 16) ≡ digit_of d
-unfolding digit_of
-letter d h = by_size (dec_lt d 10)
-  where
-    by_size : Dec (d < 10) → d + 48 + 39 * ((d + 6) / 16) ≡ cond (ltb d 10) (48 + d) (87 + d)
-    by_size (yes l) = simp (lt-ltb d 10 l) (omega arith)
-    by_size (no l) = simp (le-ltb d 10 (omega arith)) (omega arith)
 
 -- k digits are k bytes
 pub length_digits : (b k n : ℕ) → length (digits_of b k n) ≡ k
@@ -27,12 +19,19 @@ unfolding digits_of
 length_digits b zero n = refl
 length_digits b (suc k) n = simp (length-append, length_digits b k (n / b)) (omega arith)
 
--- j + k digits are the j digits of what the last k leave, and the last k
-pub split : (b j k n : ℕ) → digits_of b (j + k) n ≡ digits_of b j (n / b ^ k) ++ digits_of b k n
+-- digits written from the back: before the last of i digits is written, and after it
+pub last_written : (b i n : ℕ) (l : List ℕ) {x : ℕ} → 0 < i → i ≤ length l → x ≡ digit_of (n % b)
+    → digits_of b (i - 1) (n / b) ++ drop (i - 1) (set l (i - 1) x) ≡ digits_of b i n ++ drop i l
 unfolding digits_of
-split b j zero n = simp (add-zero, pow-zero, div-one) (sym (append-nil (digits_of b j n)))
-split b j (suc k) n =
-    simp (add-suc, split b j k (n / b), append_assoc, div-div-eq-div-mul, pow-succ')
+last_written b zero n l h r e = absurd (omega arith)
+last_written b (suc i) n l {x} h r e =
+    let p : suc i - 1 ≡ i = omega arith in
+    let q : i < length l = omega arith in
+    rw (p, drop-set l i x q, e, add-one) (sym (append_assoc (digits_of b i (n / b)) (digit_of (n % b) ∷ []) (drop (suc i) l)))
+
+-- before any is written
+pub none_written : (b n : ℕ) (l : List ℕ) → digits_of b (length l) n ++ drop (length l) l ≡ digits_of b (length l) n
+none_written b n l = simp drop-length (append-nil (digits_of b (length l) n))
 
 -- a number below ten has one place, any other one more than its tenth
 pub small : (f n : ℕ) → n < 10 → places_in f n ≡ 1
@@ -77,6 +76,20 @@ enough-places (suc f) n h = by_size (λ l. enough-places f (n / 10) (omega arith
     by_size : (10 ≤ n → n / 10 < 10 ^ places_in f (n / 10)) → Dec (n < 10) → n < 10 ^ places_in (suc f) n
     by_size i (yes l) = rw (small (suc f) n l) (omega arith)
     by_size i (no l) = rw (large f n (omega arith), pow-suc) (omega (arith, i (omega arith)))
+
+-- between a power of ten and the next: one place more than the exponent
+between : (k n : ℕ) → 10 ^ k ≤ n → n < 10 ^ suc k → places_of n ≡ suc k
+between zero n p q = small n n q
+between (suc k) n p q =
+    let h : 10 ≤ n = omega (arith, pow-suc 10 k, one-le-pow k 10 (omega arith)) in
+    one_more n h ∙ ap suc (between k (n / 10) (omega (arith, pow-suc 10 k)) (omega (arith, pow-suc 10 (suc k), pow-suc 10 k)))
+
+-- 0 has as many as 1
+pub counted : (n k : ℕ) → 10 ^ k ≤ max n 1 → max n 1 < 10 * 10 ^ k → k + 1 ≡ places_of n
+unfolding places_in
+counted zero zero p q = refl
+counted zero (suc k) p q = absurd (omega (arith, pow-suc 10 k, one-le-pow k 10 (omega arith)))
+counted (suc n) k p q = omega (arith, between k (suc n) (omega arith) (omega (arith, pow-suc 10 k)))
 
 -- more than none
 pub some-place : (f n : ℕ) → 0 < places_in f n

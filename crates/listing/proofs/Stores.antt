@@ -1,63 +1,50 @@
--- Runs of stores into a list: one after another, from the back, and from the front of the list on.
+-- A list l written from the front on: i elements, which are p, and then those that l has from the i-th on.
 -- Assumes nothing.
-use Prim.Native.Nat.{ℕ, zero, suc, ◌+◌, ◌-◌, ◌/◌, ◌%◌, ◌<◌, ◌≤◌}
-use mathlib.Core.Path.{◌≡◌, refl, ap, sym, ◌∙◌}
-use mathlib.Core.List.{List, [], ◌∷◌, ◌++◌}
-use native.Mathlib.Nat.{add-zero, zero-add, add-suc, suc-add}
+use Prim.Native.Nat.{ℕ, suc, ◌+◌, ◌-◌, ◌≤◌, ◌<◌}
+use mathlib.Core.Path.{◌≡◌, refl, ap, sym}
+use mathlib.Core.List.{List, [], ◌∷◌, ◌++◌, append_assoc}
+use native.Mathlib.Numerals.{add-one}
 use native.Mathlib.Omega.{arith}
-use lib.ListN.{length, set, drop, length-append}
-use lib.Seq.{sets, sets-eq, set_comm}
-use Rattle.listing.specs.Listing.{digit_of, digits_of}
+use borrow.Author.Tests.{le-leb, lt-leb}
+use lib.ListN.{length, set, drop, length-append, length-drop}
+use Rattle.listing.specs.Listing.{digits_of, places_of, decimal_of, written, over, whole_of}
 use Rattle.listing.proofs.Digits.{length_digits}
+use borrow.Rule.Slice.PartMut.{put_mid}
+use Rattle.std.proofs.lemmas.List.{take_at, drop_at, drop-drop, set_split}
 
--- a run and then another right after it
-pub both : (vs : List ℕ) (l : List ℕ) (i : ℕ) (ws : List ℕ) → sets (sets l i vs) (i + length vs) ws ≡ sets l i (vs ++ ws)
-both [] l i ws = rw add-zero
-both (v ∷ vs) l i ws = simp (add-suc, ← suc-add) (both vs (set l i v) (suc i) ws)
+-- a piece more, up to e
+pub piece : (p l v : List ℕ) (i n e : ℕ) {m : List ℕ} → m ≡ p ++ drop i l → length p ≡ i → i + n ≡ e → put_mid i n m v ≡ p ++ v ++ drop e l
+piece p l v i n e {m} q h f =
+    rw q (simp (take_at p (drop i l) i h, drop_at p (drop i l) i h, drop-drop, f, append_assoc))
 
--- the last store may come first
-pub last-first : (vs : List ℕ) (l : List ℕ) (i a : ℕ) → sets (set l (i + length vs) a) i vs ≡ sets l i (vs ++ (a ∷ []))
-last-first [] l i a = rw add-zero
-last-first (v ∷ vs) l i a =
-    ap (λ (m : List ℕ). sets m (suc i) vs) (set_comm l (i + suc (length vs)) i a v (λ e. omega arith))
-    ∙ ap (λ (k : ℕ). sets (set (set l i v) k a) (suc i) vs) (add-suc i (length vs) ∙ sym (suc-add i (length vs)))
-    ∙ last-first vs (set l i v) (suc i) a
+-- a byte more
+pub byte : (p l : List ℕ) (i x e : ℕ) {m : List ℕ} → m ≡ p ++ drop i l → length p ≡ i → i < length l → i + 1 ≡ e → set m i x ≡ p ++ (x ∷ []) ++ drop e l
+byte p l i x e {m} q h b f =
+    let z : List ℕ = p ++ drop i l in
+    let k : i < length z = simp (length-append, length-drop) (omega arith) in
+    let d : drop (suc i) z ≡ drop e l =
+    rw (← add-one, ← drop-drop, drop_at p (drop i l) i h, drop-drop 1 i l, f) in
+    rw (q, set_split z i x k, take_at p (drop i l) i h, d) (sym (append_assoc p (x ∷ []) (drop e l)))
 
--- from the front on
-pub front : (vs l : List ℕ) → length vs ≤ length l → sets l 0 vs ≡ vs ++ drop (length vs) l
-front vs l h = sets-eq vs l 0 (omega arith) ∙ ap (λ (k : ℕ). vs ++ drop k l) (zero-add (length vs))
+-- a text that fits
+pub whole : (t l : List ℕ) {n : ℕ} {m : List ℕ} → n ≤ length l → length t ≡ n → m ≡ t ++ drop n l → written n m ≡ whole_of t l
+unfolding whole_of over
+whole t l {n} {m} h e p = simp (e, le-leb n (length l) h) (ap (written n) p)
 
--- the same, as code leaves it: a list m with the first run stored, and r with the second stored into m, k further on
-pub after : (l : List ℕ) (i k : ℕ) (vs ws : List ℕ) {m r : List ℕ}
-    → m ≡ sets l i vs → length vs ≡ k → r ≡ sets m (i + k) ws → r ≡ sets l i (vs ++ ws)
-after l i k vs ws p e q =
-    q ∙ ap (λ (t : List ℕ). sets t (i + k) ws) p ∙ ap (λ (j : ℕ). sets (sets l i vs) (i + j) ws) (sym e) ∙ both vs l i ws
+-- a word, a decimal and a newline, where they fit and where not
+pub count_written : (w l : List ℕ) (n k : ℕ) {u v : List ℕ} {i : ℕ} → k ≡ places_of n → length w + k < length l → u ≡ w → v ≡ digits_of 10 i n → i ≡ k
+    → written (length w + k + 1) (set (put_mid (length w) (length w + k - length w) (u ++ drop (length w) l) v) (length w + k) 10)
+    ≡ whole_of (w ++ decimal_of n ++ (10 ∷ [])) l
+count_written w l n k e h p q r =
+    let t : List ℕ = w ++ digits_of 10 k n in
+    let f : length t ≡ length w + k = simp (length-append, length_digits) in
+    let g : length (t ++ (10 ∷ [])) ≡ length w + k + 1 = simp (length-append, length_digits) in
+    rw (p, q, r, ← e)
+    (whole (t ++ (10 ∷ [])) l (omega arith) g
+    (byte t l (length w + k) 10 (length w + k + 1) (piece w l (digits_of 10 k n) (length w) (length w + k - length w) (length w + k) refl refl (omega arith)) f h refl))
 
--- digits written from the back: what is left to write after the last of i digits, and after all of them
-pub one_less : (l : List ℕ) (at i n : ℕ) {x : ℕ} → 0 < i → x ≡ digit_of (n % 10)
-    → sets (set l (at + (i - 1)) x) at (digits_of 10 (i - 1) (n / 10)) ≡ sets l at (digits_of 10 i n)
-unfolding digits_of
-one_less l at zero n h e = absurd (omega arith)
-one_less l at (suc i) n {x} h e =
-    let p : suc i - 1 ≡ i = omega arith in
-    simp (p, e) (ap (λ (k : ℕ). sets (set l (at + k) (digit_of (n % 10))) at (digits_of 10 i (n / 10))) (sym (length_digits 10 i (n / 10))) ∙ last-first (digits_of 10 i (n / 10)) l at (digit_of (n % 10)))
-
-pub none_left : (l : List ℕ) (at i n : ℕ) → i ≤ 0 → l ≡ sets l at (digits_of 10 i n)
-unfolding digits_of
-none_left l at zero n h = refl
-none_left l at (suc i) n h = absurd (omega arith)
-
--- three runs of eight, a blank after the first and the second, and a newline after the third
-pub line-stored : (l : List ℕ) (i : ℕ) (u v w : List ℕ) {m n o : List ℕ} → length u ≡ 8 → length v ≡ 8 → length w ≡ 8
-    → m ≡ sets l i u → n ≡ sets (set m (i + 8) 32) (i + 9) v → o ≡ sets (set n (i + 17) 32) (i + 18) w
-    → set o (i + 26) 10 ≡ sets l i (u ++ (32 ∷ []) ++ v ++ (32 ∷ []) ++ w ++ (10 ∷ []))
-line-stored l i u v w d e f p q r =
-    let u1 : List ℕ = u ++ (32 ∷ []) in
-    let v1 : List ℕ = u1 ++ v in
-    let v2 : List ℕ = v1 ++ (32 ∷ []) in
-    let w1 : List ℕ = v2 ++ w in
-    let k1 : length u1 ≡ 9 = simp (length-append, d) in
-    let k2 : length v1 ≡ 17 = simp (length-append, d, e) in
-    let k3 : length v2 ≡ 18 = simp (length-append, d, e) in
-    let k4 : length w1 ≡ 26 = simp (length-append, d, e, f) in
-    after l i 26 w1 (10 ∷ []) (after l i 18 v2 w (after l i 17 v1 (32 ∷ []) (after l i 9 u1 v (after l i 8 u (32 ∷ []) p d refl) k1 q) k2 refl) k3 r) k4 refl
+pub too_long : (w l : List ℕ) (n k : ℕ) → k ≡ places_of n → length l ≤ length w + k → written 0 l ≡ whole_of (w ++ decimal_of n ++ (10 ∷ [])) l
+unfolding whole_of
+too_long w l n k e h =
+    let g : length l < length (w ++ decimal_of n ++ (10 ∷ [])) = simp (length-append, length_digits) (omega arith) in
+    simp (lt-leb _ _ g)

@@ -6,18 +6,17 @@ use mathlib.Core.List.{List}
 use native.Mathlib.Omega.{arith}
 use borrow.Author.Tests.{eq-eqb, ne_eqb}
 use lib.ListN.{drop, length-take}
+use Rattle.std.specs.Prelude.{Result, Ok, Err}
 use Rattle.reader.specs.Reader.{part_of}
 use Rattle.search.specs.declared.Spot.{Spot}
 use Rattle.search.specs.declared.Layout.{Layout}
 use Rattle.search.specs.Search.{size_of, count_of, key_of, search_of}
 use Rattle.search.proofs.Laws as search
-use Rattle.raw.specs.declared.Kind.{Kind}
 use Rattle.raw.specs.declared.Lists.{Lists}
 use Rattle.raw.specs.declared.Page.{Page}
-use Rattle.raw.specs.declared.Opened.{Opened}
 use Rattle.raw.specs.declared.Error.{Error}
-use Rattle.raw.specs.Checked.{Checked, number_of}
-use Rattle.raw.specs.Raw.{globals_of, pages_of, page_of, layout, page_told}
+use Rattle.raw.specs.Checked.{Checked, number_of, told}
+use Rattle.raw.specs.Raw.{globals_of, pages_of, page_of, layout}
 use Rattle.entries.specs.declared.Function.{Function}
 use Rattle.entries.specs.declared.Place.{Place}
 use Rattle.entries.specs.Placed.{first_at, list_at, read_of}
@@ -28,8 +27,8 @@ use Rattle.lookup.specs.Lookup.{Looked, nothing, refusal, telling, from_spot, fr
 use Rattle.lookup.proofs.Steps.{no-page, last-page, a-page}
 
 -- by the page's kind
-pub by_kind : (list : List ℕ) (j k : Kind) (x : ℕ) {r : Spot} → j ≡ k → r ≡ search_of list (layout k) x → r ≡ search_of list (layout j) x
-by_kind list j k x e q = q ∙ ap (λ (m : Kind). search_of list (layout m) x) (sym e)
+pub by_kind : (list : List ℕ) (j k : Layout) (x : ℕ) {r : Spot} → j ≡ k → r ≡ search_of list k x → r ≡ search_of list j x
+by_kind list j k x e q = q ∙ ap (λ (m : Layout). search_of list m x) (sym e)
 
 -- a part of so many entries has at most so many
 pub counted : (l : Layout) (s : List ℕ) (o n : ℕ) → count_of (part_of s o (size_of l * n)) l ≤ n
@@ -69,20 +68,20 @@ module _ (s : List ℕ) (l : Lists) (pages : List ℕ) (ep : pages ≡ pages_of 
     looks-in x h k e = e ∙ sym (a-page s l pc r h k) ∙ looked
 
   -- page p, read
-  module _ (pc p probes a o : ℕ) (ea : a ≡ first_of s l p) (eo : o ≡ offset_of s l p) (w : Opened) (e : page_told w ≡ page_of s o a) where
-    reads : page_told w ≡ page_of s (offset_of s l p) (first_of s l p)
+  module _ (pc p probes a o : ℕ) (ea : a ≡ first_of s l p) (eo : o ≡ offset_of s l p) (w : Result Page Error) (e : told w ≡ page_of s o a) where
+    reads : told w ≡ page_of s (offset_of s l p) (first_of s l p)
     reads = e ∙ ap (page_of s o) ea ∙ ap (λ (k : ℕ). page_of s k (first_of s l p)) eo
 
-    pub page-refused : (k : Error) → w ≡ Opened.Refused k → refusal (number_of k) probes ≡ at_page s l pc p probes
+    pub page-refused : (k : Error) → w ≡ Err k → refusal (number_of k) probes ≡ at_page s l pc p probes
     unfolding at_page from_page
-    page-refused k q = ap (λ (v : Opened). from_page s l pc p probes (page_told v)) (sym q) ∙ ap (from_page s l pc p probes) reads
+    page-refused k q = ap (λ (v : Result Page Error). from_page s l pc p probes (told v)) (sym q) ∙ ap (from_page s l pc p probes) reads
 
-    module _ (pg : Page) (q : w ≡ Opened.Page pg) where
+    module _ (pg : Page) (q : w ≡ Ok pg) where
       pub page-found : (globals : List ℕ) (next : ℕ) (x : Looked) → globals ≡ globals_of s l → next ≡ first_of s l (suc p)
           → x ≡ searched_in p globals (drop o s) pg next pc probes → x ≡ at_page s l pc p probes
       unfolding at_page from_page searched_in found_in from_spot function_at page_at
       page-found globals next x eg en ex =
-          ex ∙ (simp (eg, en, eo)) ∙ ap (λ (v : Opened). from_page s l pc p probes (page_told v)) (sym q) ∙ ap (from_page s l pc p probes) reads
+          ex ∙ (simp (eg, en, eo)) ∙ ap (λ (v : Result Page Error). from_page s l pc p probes (told v)) (sym q) ∙ ap (from_page s l pc p probes) reads
       -- the page's bytes, as a call on `&section[page_offset..]` has them
 
 -- the search in a page that was read

@@ -1,11 +1,12 @@
 -- docs/FORMAT.md, 4.1 and 4.2: lookup, what it tells, with the entries that it probed.
 -- Assumes nothing.
-use Rattle.std.specs.Prelude.{ℕ, ◌+◌, ◌-◌, ◌≤◌, ◌<◌, List, cond, eqb}
+use Rattle.std.specs.Prelude.{ℕ, ◌+◌, ◌-◌, ◌≤◌, ◌<◌, List, cond, eqb, Option, Some, None, Result, Ok, Err}
 use Rattle.search.specs.declared.Layout.{Layout}
 use Rattle.search.specs.declared.Spot.{Spot}
 use Rattle.search.specs.Search.{search_of}
 use Rattle.raw.specs.declared.Lists.{Lists}
 use Rattle.raw.specs.declared.Page.{Page}
+use Rattle.raw.specs.declared.Error.{Error}
 use Rattle.raw.specs.Checked.{Checked, good, refused, either, number_of}
 use Rattle.raw.specs.Raw.{parse_of, grant_of, pages_of, page_of, layout}
 use Rattle.entries.specs.declared.Function.{Function}
@@ -18,10 +19,13 @@ pub data Looked : Type 0 where
   nothing : (probes : ℕ) → Looked
   refusal : (number probes : ℕ) → Looked
 
+abbrev pub told_with : ℕ → Result (Option Function) Error → Looked
+told_with probes (Ok (Some f)) = found f probes
+told_with probes (Ok None) = nothing probes
+told_with probes (Err e) = refusal (number_of e) probes
+
 abbrev pub looked_told : Found → Looked
-looked_told (Found.Function f p) = found f p
-looked_told (Found.Nothing p) = nothing p
-looked_told (Found.Refused e p) = refusal (number_of e) p
+looked_told r = told_with r.probes r.function
 
 abbrev pub telling : ℕ → Checked Function → Looked
 telling probes (good f) = found f probes

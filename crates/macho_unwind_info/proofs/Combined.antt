@@ -14,7 +14,7 @@ use Rattle.rules.specs.Answers.{numbered}
 use Rattle.step.specs.Steps.{Told}
 use Rattle.step.specs.StepsX86 as steps_x86
 use Rattle.step.specs.StepsArm64 as steps_arm64
-use Rattle.step.proofs.Refused.{unchanged-x86-64, unchanged-arm64}
+use Rattle.step.specs.Refused.{unchanged-x86-64, unchanged-arm64}
 use Rattle.macho_unwind_info.specs.Unwind.{Unwound, unwound, unwind_by}
 use Rattle.macho_unwind_info.specs.UnwindX86 as x86
 use Rattle.macho_unwind_info.specs.UnwindArm64 as arm64

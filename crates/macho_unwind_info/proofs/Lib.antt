@@ -3,6 +3,5 @@ pub mod Combined
 pub mod Undoes
 pub mod One
 pub mod Worked
-pub mod Apart
 pub mod Viewed
 pub mod Witnesses

@@ -1,29 +1,34 @@
 -- What the combined call's code knows at each return, on plain values and over the machine.
 -- Assumes nothing.
 use Prim.Native.Nat.{ℕ}
-use mathlib.Core.Path.{◌≡◌, refl, ap, sym, ◌∙◌}
-use Rattle.lookup.specs.declared.Found.{Found}
-use Rattle.lookup.specs.Lookup.{Looked, looked_told, probes_of}
+use mathlib.Core.Path.{◌≡◌, ap, sym, ◌∙◌}
+use Rattle.std.specs.Prelude.{Option, Some, None, Result, Ok, Err, IsErrAnd}
+use Rattle.raw.specs.declared.Error.{Error}
+use Rattle.raw.specs.Checked.{number_of}
+use Rattle.lookup.specs.Lookup.{told_with}
 use Rattle.entries.specs.declared.Function.{Function}
 use Rattle.frame.specs.Frame.{Regs}
-use Rattle.rules.specs.Answers.{Number}
+use Rattle.rules.specs.Answers.{numbered}
 use Rattle.step.specs.Steps.{Told}
-use Rattle.macho_unwind_info.specs.Unwind.{unwound, looked_up, unwind_by}
+use Rattle.macho_unwind_info.specs.declared.UnwindError.{UnwindError}
+use Rattle.macho_unwind_info.specs.Unwind.{error_of, outcome_of, unwound, unwind_by}
 
-module _ (step : ℕ → Told) (r : Regs) where
-  -- no function: what the `else` of the `let` has is that the case is another
-  none_found : (x : Found) → ((f : Function) (n : ℕ) → x ≡ Found.Function f n → ⊥) → unwound (looked_up (looked_told x)) (probes_of (looked_told x)) r ≡ unwind_by step r (looked_told x)
+-- a `?` passes on what the error becomes
+pub became : (r : Result (Unit {0}) UnwindError) (e : UnwindError) → IsErrAnd r (λ x. x ≡ e) → outcome_of r ≡ error_of e
+became (Ok x) e h = absurd h
+became (Err d) e h = ap error_of h
+
+module _ (step : ℕ → Told) (r : Regs) (probes : ℕ) (w : Result (Option Function) Error) where
+  pub passed_on : (e : Error) → w ≡ Err e → unwound (numbered (number_of e) 0) probes r ≡ unwind_by step r (told_with probes w)
   unfolding unwind_by
-  none_found (Found.Function f n) k = absurd (k f n refl)
-  none_found (Found.Nothing n) k = refl
-  none_found (Found.Refused e n) k = refl
+  passed_on e p = ap (λ (x : Result (Option Function) Error). unwind_by step r (told_with probes x)) (sym p)
 
-  module _ (x : Found) (t : Looked) (e : looked_told x ≡ t) (o : Number) (n : ℕ) where
-    pub passed_on : ((f : Function) (n : ℕ) → x ≡ Found.Function f n → ⊥) → o ≡ looked_up (looked_told x) → n ≡ probes_of (looked_told x) → unwound o n r ≡ unwind_by step r t
-    passed_on k p q = rw (p, q) (none_found x k ∙ ap (unwind_by step r) e)
+  pub none_found : w ≡ Ok None → unwound (numbered 20 0) probes r ≡ unwind_by step r (told_with probes w)
+  unfolding unwind_by
+  none_found p = ap (λ (x : Result (Option Function) Error). unwind_by step r (told_with probes x)) (sym p)
 
-    -- a function, and the step by its word
-    pub stepped_by : (f : Function) (u : Told) → x ≡ Found.Function f n → o ≡ u.refusal → u ≡ step f.opcode → unwound o n u.regs ≡ unwind_by step r t
-    unfolding unwind_by
-    stepped_by f u q p d =
-        rw p (ap (λ (v : Told). unwound v.refusal n v.regs) d) ∙ ap (λ (y : Found). unwind_by step r (looked_told y)) (sym q) ∙ ap (unwind_by step r) e
+  -- a function, and the step by its word
+  pub stepped_by : (f : Function) (u : Told) → w ≡ Ok (Some f) → u ≡ step f.opcode → unwound u.refusal probes u.regs ≡ unwind_by step r (told_with probes w)
+  unfolding unwind_by
+  stepped_by f u p d =
+      ap (λ (v : Told). unwound v.refusal probes v.regs) d ∙ ap (λ (x : Result (Option Function) Error). unwind_by step r (told_with probes x)) (sym p)

@@ -13,18 +13,18 @@ use Rattle.iterate.specs.Range.{range_in, range_on}
 use Rattle.iterate.proofs.One.{next-after-parse, range-after-parse}
 use Rattle.lookup.specs.Lookup.{lookup_in, lookup_on}
 use Rattle.lookup.proofs.One.{after-parse}
-use Rattle.macho_unwind_info.specs.View.{view_of, lists_of}
+use Rattle.macho_unwind_info.specs.View.{view_of}
 use Rattle.macho_unwind_info.specs.declared.view.UnwindInfo.{UnwindInfo}
 
 module _ (s : Bor (List ℕ)) (l : Lists) (e : parse_of s.now ≡ good l) where
   abbrev view : UnwindInfo
   view = view_of s l
 
-  pub view-looks-up : (pc : ℕ) → lookup_in view.section.now (lists_of view) pc ≡ lookup_on s.now pc
+  pub view-looks-up : (pc : ℕ) → lookup_in view.section.now view.lists pc ≡ lookup_on s.now pc
   view-looks-up pc = after-parse s.now l e pc
 
-  pub view-has-range : range_in view.section.now (lists_of view) ≡ range_on s.now
+  pub view-has-range : range_in view.section.now view.lists ≡ range_on s.now
   view-has-range = range-after-parse s.now l e
 
-  pub view-iterates : (c : Cursor) → next_in view.section.now (lists_of view) c ≡ next_on s.now c
+  pub view-iterates : (c : Cursor) → next_in view.section.now view.lists c ≡ next_on s.now c
   view-iterates c = next-after-parse s.now l e c

@@ -3,12 +3,8 @@
 use Rattle.std.specs.Prelude.{ℕ, List}
 use Rattle.lookup.specs.Lookup.{lookup_on}
 use Rattle.frame.specs.Frame.{Regs}
-use Rattle.step.specs.StepsArm64.{step_of, regs_told}
-use Rattle.macho_unwind_info.specs.Unwind.{outcome_of, Unwound, unwind_by}
-use Rattle.macho_unwind_info.specs.declared.arm64.«UnwoundArm64».{«UnwoundArm64»}
+use Rattle.step.specs.StepsArm64.{step_of}
+use Rattle.macho_unwind_info.specs.Unwind.{Unwound, unwind_by}
 
 unfoldable pub unwind_of : (section : List ℕ) → (address base : ℕ) → (window : List ℕ) → Regs → Unwound
 unwind_of section address base window r = unwind_by (λ w. step_of w base window r) r (lookup_on section address)
-
-abbrev pub unwound_told : «UnwoundArm64» → Unwound
-unwound_told u = record { refusal = outcome_of u.outcome; probes = u.probes; regs = regs_told u.registers }

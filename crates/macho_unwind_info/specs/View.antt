@@ -3,12 +3,14 @@
 use Rattle.std.specs.Prelude.{ℕ, List}
 use Rattle.std.specs.Borrow.{Bor}
 use Rattle.raw.specs.declared.Lists.{Lists}
+use Rattle.raw.specs.Checked.{Checked, good, ◌>>=◌}
 use Rattle.macho_unwind_info.specs.declared.view.UnwindInfo.{UnwindInfo}
 
 abbrev pub view_of : Bor (List ℕ) → Lists → UnwindInfo
-view_of s l =
-    record { section = s; global_opcodes_offset = l.global_opcodes_offset; global_opcodes_len = l.global_opcodes_len; pages_offset = l.pages_offset; pages_len = l.pages_len }
+view_of s l = record { section = s; lists = l }
 
-abbrev pub lists_of : UnwindInfo → Lists
-lists_of u =
-    record { global_opcodes_offset = u.global_opcodes_offset; global_opcodes_len = u.global_opcodes_len; pages_offset = u.pages_offset; pages_len = u.pages_len }
+-- of lists that were parsed
+abbrev pub viewed : Bor (List ℕ) → Checked Lists → Checked UnwindInfo
+viewed s p = do
+  l ← p
+  good (view_of s l)

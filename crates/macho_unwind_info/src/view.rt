@@ -1,21 +1,20 @@
-// A section together with its two list places. Each function takes the view apart and calls one that takes the section and the lists.
+// A section together with its two list places, which each function grants anew.
 ghost use Rattle.std.specs.Prelude.{◌≡◌};
+ghost use Rattle.raw.specs.Checked.{told};
+ghost use Rattle.raw.specs.Raw.{parse_of};
 ghost use Rattle.lookup.specs.Lookup.{lookup_in, looked_told};
 ghost use Rattle.iterate.specs.Iterate.{next_in, next_told};
-ghost use Rattle.iterate.specs.Range.{range_in, range_told};
-ghost use Rattle.macho_unwind_info.specs.View.{view_of, lists_of};
+ghost use Rattle.iterate.specs.Range.{range_in};
+ghost use Rattle.macho_unwind_info.specs.View.{view_of, viewed};
 
-use iterate::{Cursor, Next, Ranged};
+use iterate::{Cursor, Next, Range};
 use lookup::Found;
-use raw::Lists;
+use raw::{Error, Lists};
 
 #[derive(Clone, Copy)]
 pub struct UnwindInfo<'a> {
     pub section: &'a [u8],
-    pub global_opcodes_offset: u32,
-    pub global_opcodes_len: u32,
-    pub pages_offset: u32,
-    pub pages_len: u32,
+    pub lists: Lists,
 }
 
 impl<'a> UnwindInfo<'a> {
@@ -23,57 +22,33 @@ impl<'a> UnwindInfo<'a> {
     pub fn new(section: &'a [u8], lists: Lists) -> UnwindInfo<'a>
         ensures { result ≡ view_of section.entry lists }
     {
-        UnwindInfo {
-            section,
-            global_opcodes_offset: lists.global_opcodes_offset,
-            global_opcodes_len: lists.global_opcodes_len,
-            pages_offset: lists.pages_offset,
-            pages_len: lists.pages_len,
-        }
+        UnwindInfo { section, lists }
     }
 
-    pub fn lookup(self, pc: u32) -> Found
-        ensures { looked_told result ≡ lookup_in self.entry.section.now (lists_of self.entry) pc }
+    // Of the lists that the header names.
+    pub fn parse(section: &'a [u8]) -> Result<UnwindInfo<'a>, Error>
+        ensures { told result ≡ viewed section.entry (parse_of section.now) }
     {
-        lookup::lookup_in(
-            self.section,
-            Lists {
-                global_opcodes_offset: self.global_opcodes_offset,
-                global_opcodes_len: self.global_opcodes_len,
-                pages_offset: self.pages_offset,
-                pages_len: self.pages_len,
-            },
-            pc,
-        )
+        let lists = raw::parse(section)?;
+        Ok(UnwindInfo::new(section, lists))
     }
 
-    pub fn address_range(self) -> Ranged
-        ensures { range_told result ≡ range_in self.entry.section.now (lists_of self.entry) }
+    pub fn lookup(&self, pc: u32) -> Found
+        ensures { looked_told result ≡ lookup_in self.now.section.now self.now.lists pc }
     {
-        iterate::address_range_in(
-            self.section,
-            Lists {
-                global_opcodes_offset: self.global_opcodes_offset,
-                global_opcodes_len: self.global_opcodes_len,
-                pages_offset: self.pages_offset,
-                pages_len: self.pages_len,
-            },
-        )
+        lookup::lookup_in(self.section, self.lists, pc)
     }
 
-    pub fn next_function(self, c: Cursor) -> Next
-        ensures { next_told result ≡ next_in self.entry.section.now (lists_of self.entry) c }
+    pub fn address_range(&self) -> Result<Range, Error>
+        ensures { told result ≡ range_in self.now.section.now self.now.lists }
     {
-        iterate::next_function_in(
-            self.section,
-            Lists {
-                global_opcodes_offset: self.global_opcodes_offset,
-                global_opcodes_len: self.global_opcodes_len,
-                pages_offset: self.pages_offset,
-                pages_len: self.pages_len,
-            },
-            c,
-        )
+        iterate::address_range_in(self.section, self.lists)
+    }
+
+    pub fn next_function(&self, c: Cursor) -> Next
+        ensures { next_told result ≡ next_in self.now.section.now self.now.lists c }
+    {
+        iterate::next_function_in(self.section, self.lists, c)
     }
 }
 

@@ -40,7 +40,7 @@ answer (on-arm64 w) = says-arm64 (arm64.parse_of w)
 answer (numbers r) = own-and-dwarf (number_of r) (dwarf_of r)
 answer (named n) = names (named_of n)
 answer (field fs k) = names (field_named fs k)
-answer (case-x86-64 o) = says (x86.word_of o) []
+answer (case-x86-64 o) = says (x86.told o).word (x86.told o).saved
 answer (case-arm64 o) = says-arm64 (arm64.told o)
 
 -- the pairs of the arm64 word are x19/x20, x23/x24, x25/x26, d10/d11 and d12/d13
@@ -83,8 +83,9 @@ rows =
     ∷ (field 0o73016 4, names (registers.unknown 7))
     ∷ (field 0o173016 5, names registers.absent)
     -- the code's cases that have several values, which the definitions tell in this order
-    ∷ (case-x86-64 (OpcodeX86_64.FrameBased 336 0o42513), says (x86.frame_based 336 0o42513) [])
-    ∷ (case-x86-64 (OpcodeX86_64.FramelessIndirect 77 48), says (x86.frameless_indirect 77 48) [])
+    ∷ (case-x86-64 (OpcodeX86_64.FrameBased 336 0o42513), says (x86.frame_based 336 0o42513) (0 ∷ 0 ∷ 0 ∷ 0 ∷ 0 ∷ 0 ∷ []))
+    ∷ (case-x86-64 (OpcodeX86_64.FramelessImmediate 424 (3 ∷ 2 ∷ 6 ∷ 0 ∷ 0 ∷ 0 ∷ [])), says (x86.frameless_immediate 424) (3 ∷ 2 ∷ 6 ∷ 0 ∷ 0 ∷ 0 ∷ []))
+    ∷ (case-x86-64 (OpcodeX86_64.FramelessIndirect 77 48 (3 ∷ 6 ∷ 2 ∷ 4 ∷ 5 ∷ 0 ∷ [])), says (x86.frameless_indirect 77 48) (3 ∷ 6 ∷ 2 ∷ 4 ∷ 5 ∷ 0 ∷ []))
     ∷ (
       case-arm64 («OpcodeArm64».FrameBased 5 true false true true false false true true false),
       says-arm64 (arm64.frame_based 5 (true ∷ false ∷ true ∷ true ∷ false ∷ false ∷ true ∷ true ∷ false ∷ [])),

@@ -3,7 +3,7 @@
 -- Assumes nothing.
 use Prim.Native.Nat.{ℕ, zero, suc, ◌+◌, ◌*◌, ◌/◌, ◌%◌, ◌^◌, ◌<◌}
 use mathlib.Core.Path.{◌≡◌, refl, ap, sym, ◌∙◌}
-use mathlib.Core.Bool.{Bool, true, false, cond}
+use mathlib.Core.Bool.{Bool, cond}
 use mathlib.Core.List.{List, [], ◌∷◌}
 use native.Mathlib.Nat.{div-one, mod-one}
 use native.Mathlib.Omega.{arith}
@@ -45,12 +45,6 @@ based w k =
 abbrev pub answer_of : ℕ → ℕ
 answer_of k = cond (eqb k 0) 0 (cond (eqb k 2) 1 (cond (eqb k 3) 2 4))
 
-pub small : (x y z : Bool) → cond x 0 (cond y 1 (cond z 2 4)) < 256
-small true y z = omega arith
-small false true z = omega arith
-small false false true = omega arith
-small false false false = omega arith
-
 abbrev pub value_of : ℕ → ℕ → ℕ
 value_of k w = cond (eqb k 2) (16 * bits 12 12 w) (cond (eqb k 3) (specific_of w) k)
 
@@ -70,20 +64,20 @@ pub not-based : (k w a v : ℕ) → kind_of w ≡ k → (k ≡ 4 → ⊥) → a 
 not-based k w a v e n q r =
     ap {B = «WordArm64»} (λ (x : ℕ). numbers x v 0 0) q ∙ ap {B = «WordArm64»} (λ (x : ℕ). numbers (answer_of k) x 0 0) r ∙ other k w e n
 
--- The case that has these numbers.
+-- The case that has these numbers, as the code makes it: it cuts each number to its type.
 abbrev pub bits_of : ℕ → List Bool
 bits_of ps = eqb (ps % 2) 1 ∷ bit 1 ps ∷ bit 2 ps ∷ bit 3 ps ∷ bit 4 ps ∷ bit 8 ps ∷ bit 9 ps ∷ bit 10 ps ∷ bit 11 ps ∷ []
 
-abbrev pub case_of : (answer value count pairs : ℕ) → Word
-case_of a v n ps =
+abbrev pub case_of : ℕ → «WordArm64» → Word
+case_of a n =
     cond (eqb a 0) null
-    (cond (eqb a 1) (frameless (v % 65536))
-    (cond (eqb a 2) (dwarf v)
-    (cond (eqb a 3) (frame_based n (bits_of ps))
-    (unrecognized (v % 256)))))
+    (cond (eqb a 1) (frameless (n.value % 65536))
+    (cond (eqb a 2) (dwarf n.value)
+    (cond (eqb a 3) (frame_based n.saved_reg_pair_count (bits_of n.saved_pairs))
+    (unrecognized (n.value % 256)))))
 
 abbrev back : «WordArm64» → Word
-back n = case_of n.answer n.value n.saved_reg_pair_count n.saved_pairs
+back n = case_of n.answer n
 
 -- the pairs are read from their bits again
 again : (w : ℕ) → bits_of (bit_and w 0xF1F) ≡ pairs w
@@ -115,8 +109,11 @@ numbers-back w = go (kind_of w) refl
         rw (of-no-kind _ w e (λ z. omega arith) (λ z. omega arith) (λ z. omega arith) (λ z. omega arith), small) refl
 
 -- as the code has it: the numbers, and which case they are
-pub said : (w a : ℕ) (n : «WordArm64») → n ≡ in_numbers (parse_of w) → n.answer ≡ a → case_of a n.value n.saved_reg_pair_count n.saved_pairs ≡ parse_of w
-said w a n e q = ap (λ (b : ℕ). case_of b n.value n.saved_reg_pair_count n.saved_pairs) (sym q) ∙ ap back e ∙ numbers-back w
+pub said : (w a : ℕ) (n : «WordArm64») → n ≡ in_numbers (parse_of w) → n.answer ≡ a → case_of a n ≡ parse_of w
+said w a n e q = ap (λ (b : ℕ). case_of b n) (sym q) ∙ ap back e ∙ numbers-back w
 
-pub no-case : (a v n ps : ℕ) → (a ≡ 0 → ⊥) → (a ≡ 1 → ⊥) → (a ≡ 2 → ⊥) → (a ≡ 3 → ⊥) → unrecognized (v % 256) ≡ case_of a v n ps
-no-case a v n ps n0 n1 n2 n3 = simp (ne_eqb a 0 n0, ne_eqb a 1 n1, ne_eqb a 2 n2, ne_eqb a 3 n3)
+pub said-last : (w : ℕ) (n : «WordArm64») → n ≡ in_numbers (parse_of w) → 3 < n.answer → unrecognized (n.value % 256) ≡ parse_of w
+said-last w n e h = other ∙ said w n.answer n e refl
+  where
+    other : unrecognized (n.value % 256) ≡ case_of n.answer n
+    other = simp (ne_eqb n.answer 0 (omega arith), ne_eqb n.answer 1 (omega arith), ne_eqb n.answer 2 (omega arith), ne_eqb n.answer 3 (omega arith))

@@ -6,14 +6,13 @@ use mathlib.Core.Bool.{cond}
 use mathlib.Core.List.{List}
 use native.Mathlib.Omega.{arith}
 use lib.Dec.{eqb}
+use borrow.Author.Tests.{ne_eqb}
 use lib.ListN.{replicate}
 use Rattle.permutation.specs.Permutation as permutation
-use Rattle.permutation.specs.declared.Decoded.{Decoded}
-use Rattle.permutation.specs.declared.Decoded.TheVariants.{Accepted, Refused}
 use Rattle.opcodes.specs.Bits.{bits, kind_of, specific_of}
-use Rattle.opcodes.specs.WordsX86.{Word, null, frame_based, frameless_immediate, frameless_indirect, dwarf, invalid_frameless, unrecognized, Told, beside, listing, parse_of, numbers, numbers_of}
+use Rattle.opcodes.specs.WordsX86.{Word, null, frame_based, frameless_immediate, frameless_indirect, dwarf, invalid_frameless, unrecognized, Told, beside, alone, listing, parse_of, numbers, numbers_of}
 use Rattle.opcodes.specs.declared.words_x86_64.WordX86_64.{WordX86_64}
-use Rattle.opcodes.proofs.KindsX86.{of-kind, of-no-kind, listed, unlisted}
+use Rattle.opcodes.proofs.KindsX86.{of-kind, of-no-kind}
 
 -- kinds 0, 1 and 4
 abbrev value_of : ℕ → ℕ → ℕ
@@ -41,37 +40,40 @@ pub no_kind : (k w : ℕ) → kind_of w ≡ k → 4 < k → numbers 6 k 0 0 (rep
 no_kind k w e h = sym (ap numbers_of (of-no-kind k w e (λ z. omega arith) (λ z. omega arith) (λ z. omega arith) (λ z. omega arith) (λ z. omega arith)))
 
 -- kinds 2 and 3, by what the decoder told: bit 24 tells which
-module _ (w : ℕ) (h : kind_of w / 2 ≡ 1) (rs : List ℕ) (d : Decoded)
-    (t : permutation.told_as d rs ≡ permutation.decode_of (bits 10 3 w) (bits 0 10 w)) where
-  pub invalid : d ≡ Refused → numbers 5 0 0 0 (replicate 6 0) ≡ numbers_of (parse_of w)
-  invalid p = go (kind_of w) refl h
+module _ (w : ℕ) (h : kind_of w / 2 ≡ 1) where
+  abbrev decoded : permutation.Told
+  decoded = permutation.decode_of (bits 10 3 w) (bits 0 10 w)
+
+  pub invalid : (why : ℕ) (rs : List ℕ) → permutation.Told.refused why rs ≡ decoded → numbers 5 0 0 0 (replicate 6 0) ≡ numbers_of (parse_of w)
+  invalid why rs t = go (kind_of w) refl h
     where
       go : (k : ℕ) → kind_of w ≡ k → k / 2 ≡ 1 → numbers 5 0 0 0 (replicate 6 0) ≡ numbers_of (parse_of w)
       go zero e h = absurd (omega arith)
       go (suc zero) e h = absurd (omega arith)
-      go (suc (suc zero)) e h = ap numbers_of (unlisted _ rs _ d t p ∙ sym (of-kind 2 w e))
-      go (suc (suc (suc zero))) e h = ap numbers_of (unlisted _ rs _ d t p ∙ sym (of-kind 3 w e))
+      go (suc (suc zero)) e h = ap numbers_of (ap (listing (frameless_immediate (8 * bits 16 8 w))) t ∙ sym (of-kind 2 w e))
+      go (suc (suc (suc zero))) e h = ap numbers_of (ap (listing (frameless_indirect (bits 16 8 w) (8 * bits 13 3 w))) t ∙ sym (of-kind 3 w e))
       go (suc (suc (suc (suc k)))) e h = absurd (omega arith)
 
-  pub immediate : d ≡ Accepted → w / 0x1000000 % 2 ≡ 0 → numbers 2 (8 * bits 16 8 w) 0 0 rs ≡ numbers_of (parse_of w)
-  immediate p b = ap numbers_of (listed _ rs _ d t p ∙ sym (of-kind 2 w (omega (arith, h, b))))
+  pub immediate : (rs : List ℕ) → permutation.accepted rs ≡ decoded → w / 0x1000000 % 2 ≡ 0 → numbers 2 (8 * bits 16 8 w) 0 0 rs ≡ numbers_of (parse_of w)
+  immediate rs t b = ap numbers_of (ap (listing (frameless_immediate (8 * bits 16 8 w))) t ∙ sym (of-kind 2 w (omega (arith, h, b))))
 
-  pub indirect : d ≡ Accepted → (w / 0x1000000 % 2 ≡ 0 → ⊥) → numbers 3 (bits 16 8 w) (8 * bits 13 3 w) 0 rs ≡ numbers_of (parse_of w)
-  indirect p b = ap numbers_of (listed _ rs _ d t p ∙ sym (of-kind 3 w (omega (arith, h, b))))
+  pub indirect : (rs : List ℕ) → permutation.accepted rs ≡ decoded → (w / 0x1000000 % 2 ≡ 0 → ⊥)
+      → numbers 3 (bits 16 8 w) (8 * bits 13 3 w) 0 rs ≡ numbers_of (parse_of w)
+  indirect rs t b = ap numbers_of (ap (listing (frameless_indirect (bits 16 8 w) (8 * bits 13 3 w))) t ∙ sym (of-kind 3 w (omega (arith, h, b))))
 
 -- The case that has these numbers, as the code makes it: it cuts each number to its type.
-abbrev pub case_of : (answer value adjust fields : ℕ) → Word
-case_of a v d f =
-    cond (eqb a 0) null
-    (cond (eqb a 1) (frame_based (v % 65536) f)
-    (cond (eqb a 2) (frameless_immediate (v % 65536))
-    (cond (eqb a 3) (frameless_indirect (v % 256) d)
-    (cond (eqb a 4) (dwarf v)
-    (cond (eqb a 5) invalid_frameless
-    (unrecognized (v % 256)))))))
+abbrev pub case_of : ℕ → WordX86_64 → Told
+case_of a n =
+    cond (eqb a 0) (alone null)
+    (cond (eqb a 1) (alone (frame_based (n.value % 65536) n.fields))
+    (cond (eqb a 2) (beside (frameless_immediate (n.value % 65536)) n.saved_regs)
+    (cond (eqb a 3) (beside (frameless_indirect (n.value % 256) n.stack_adjust_in_bytes) n.saved_regs)
+    (cond (eqb a 4) (alone (dwarf n.value))
+    (cond (eqb a 5) (alone invalid_frameless)
+    (alone (unrecognized (n.value % 256))))))))
 
 abbrev back : WordX86_64 → Told
-back n = beside (case_of n.answer n.value n.stack_adjust_in_bytes n.fields) n.saved_regs
+back n = case_of n.answer n
 
 list_back : (x : Word) (t : permutation.Told) → ((rs : List ℕ) → back (numbers_of (beside x rs)) ≡ beside x rs) → back (numbers_of (listing x t)) ≡ listing x t
 list_back x (permutation.accepted rs) h = h rs
@@ -97,15 +99,12 @@ numbers-back w = go (kind_of w) refl
         let small : suc (suc (suc (suc (suc k)))) % 256 ≡ suc (suc (suc (suc (suc k)))) = omega (arith, e) in
         rw (of-no-kind _ w e (λ z. omega arith) (λ z. omega arith) (λ z. omega arith) (λ z. omega arith) (λ z. omega arith), small) refl
 
--- so of the case that the code makes of numbers that are the word's
-pub case-said : (a v d f w : ℕ) → numbers a v d f (parse_of w).saved ≡ numbers_of (parse_of w) → case_of a v d f ≡ (parse_of w).word
-case-said a v d f w e = ap (λ (n : WordX86_64). (back n).word) e ∙ ap (λ (t : Told). t.word) (numbers-back w)
+-- as the code has it: the numbers, and which case they are
+pub said : (w a : ℕ) (n : WordX86_64) → n ≡ numbers_of (parse_of w) → n.answer ≡ a → case_of a n ≡ parse_of w
+said w a n e q = ap (λ (b : ℕ). case_of b n) (sym q) ∙ ap back e ∙ numbers-back w
 
--- and of the whole word, its list beside the case
-pub said : (w : ℕ) (n : WordX86_64) (x : Word) → n ≡ numbers_of (parse_of w)
-    → (numbers n.answer n.value n.stack_adjust_in_bytes n.fields (parse_of w).saved ≡ numbers_of (parse_of w) → x ≡ (parse_of w).word)
-    → beside x n.saved_regs ≡ parse_of w
-said w n x e q =
-    let list : n.saved_regs ≡ (parse_of w).saved = ap (λ (t : Told). t.saved) (ap back e ∙ numbers-back w) in
-    let of_word = ap {B = WordX86_64} (λ (rs : List ℕ). numbers n.answer n.value n.stack_adjust_in_bytes n.fields rs) (sym list) ∙ e in
-    ap {B = Told} (λ (y : Word). beside y n.saved_regs) (q of_word) ∙ ap {B = Told} (beside (parse_of w).word) list
+pub said-last : (w : ℕ) (n : WordX86_64) → n ≡ numbers_of (parse_of w) → 5 < n.answer → alone (unrecognized (n.value % 256)) ≡ parse_of w
+said-last w n e h = other ∙ said w n.answer n e refl
+  where
+    other : alone (unrecognized (n.value % 256)) ≡ case_of n.answer n
+    other = simp (ne_eqb n.answer 0 (omega arith), ne_eqb n.answer 1 (omega arith), ne_eqb n.answer 2 (omega arith), ne_eqb n.answer 3 (omega arith), ne_eqb n.answer 4 (omega arith), ne_eqb n.answer 5 (omega arith))

@@ -14,7 +14,6 @@ use Rattle.opcodes.specs.declared.bitfield.OpcodeBitfield.{OpcodeBitfield}
 use Rattle.opcodes.specs.declared.x86_64.RegisterNameX86_64.TheVariants.{Rbx, R12, R13, R14, R15, Rbp}
 use Rattle.opcodes.specs.declared.x86_64.Named.{Named}
 use Rattle.opcodes.specs.declared.x86_64.OpcodeX86_64.{OpcodeX86_64}
-use Rattle.opcodes.specs.declared.x86_64.ParsedX86_64.{ParsedX86_64}
 use Rattle.opcodes.specs.declared.arm64.«OpcodeArm64».{«OpcodeArm64»}
 
 abbrev back_named : registers.Told → Named
@@ -41,32 +40,29 @@ way_named (Named.Unknown n) = refl
 pub one-named : (t : registers.Told) (x y : Named) → registers.told x ≡ t → registers.told y ≡ t → x ≡ y
 one-named t x y p q = LeftInverse-Injective back_named registers.told way_named x y (p ∙ sym q)
 
-abbrev back_x86 : x86.Word → OpcodeX86_64
-back_x86 x86.null = OpcodeX86_64.Null
-back_x86 (x86.frame_based offset fields) = OpcodeX86_64.FrameBased offset fields
-back_x86 (x86.frameless_immediate size) = OpcodeX86_64.FramelessImmediate size
-back_x86 (x86.frameless_indirect place adjust) = OpcodeX86_64.FramelessIndirect place adjust
-back_x86 (x86.dwarf low24) = OpcodeX86_64.Dwarf low24
-back_x86 x86.invalid_frameless = OpcodeX86_64.InvalidFrameless
-back_x86 (x86.unrecognized kind) = OpcodeX86_64.UnrecognizedKind kind
+abbrev back_x86 : x86.Word → List ℕ → OpcodeX86_64
+back_x86 x86.null saved = OpcodeX86_64.Null
+back_x86 (x86.frame_based offset fields) saved = OpcodeX86_64.FrameBased offset fields
+back_x86 (x86.frameless_immediate size) saved = OpcodeX86_64.FramelessImmediate size saved
+back_x86 (x86.frameless_indirect place adjust) saved = OpcodeX86_64.FramelessIndirect place adjust saved
+back_x86 (x86.dwarf low24) saved = OpcodeX86_64.Dwarf low24
+back_x86 x86.invalid_frameless saved = OpcodeX86_64.InvalidFrameless
+back_x86 (x86.unrecognized kind) saved = OpcodeX86_64.UnrecognizedKind kind
 
-way_x86 : LeftInverse back_x86 x86.word_of
+abbrev back_told : x86.Told → OpcodeX86_64
+back_told t = back_x86 t.word t.saved
+
+way_x86 : LeftInverse back_told x86.told
 way_x86 OpcodeX86_64.Null = refl
 way_x86 (OpcodeX86_64.FrameBased offset fields) = refl
-way_x86 (OpcodeX86_64.FramelessImmediate size) = refl
-way_x86 (OpcodeX86_64.FramelessIndirect place adjust) = refl
+way_x86 (OpcodeX86_64.FramelessImmediate size saved) = refl
+way_x86 (OpcodeX86_64.FramelessIndirect place adjust saved) = refl
 way_x86 (OpcodeX86_64.Dwarf low24) = refl
 way_x86 OpcodeX86_64.InvalidFrameless = refl
 way_x86 (OpcodeX86_64.UnrecognizedKind kind) = refl
 
-abbrev back_parsed : x86.Told → ParsedX86_64
-back_parsed t = record { opcode = back_x86 t.word; saved_regs = t.saved }
-
-way_parsed : LeftInverse back_parsed x86.told
-way_parsed p = ap {B = ParsedX86_64} (λ (o : OpcodeX86_64). record { opcode = o; saved_regs = p.saved_regs }) (way_x86 p.opcode)
-
-pub one-x86-64 : (t : x86.Told) (x y : ParsedX86_64) → x86.told x ≡ t → x86.told y ≡ t → x ≡ y
-one-x86-64 t x y p q = LeftInverse-Injective back_parsed x86.told way_parsed x y (p ∙ sym q)
+pub one-x86-64 : (t : x86.Told) (x y : OpcodeX86_64) → x86.told x ≡ t → x86.told y ≡ t → x ≡ y
+one-x86-64 t x y p q = LeftInverse-Injective back_told x86.told way_x86 x y (p ∙ sym q)
 
 abbrev back_pairs : ℕ → List Bool → «OpcodeArm64»
 back_pairs n bs =

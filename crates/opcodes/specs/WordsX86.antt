@@ -4,7 +4,6 @@ use Rattle.std.specs.Prelude.{ℕ, ◌*◌, cond, List, eqb, replicate}
 use Rattle.permutation.specs.Permutation as permutation
 use Rattle.opcodes.specs.Bits.{bits, kind_of, specific_of}
 use Rattle.opcodes.specs.declared.x86_64.OpcodeX86_64.{OpcodeX86_64}
-use Rattle.opcodes.specs.declared.x86_64.ParsedX86_64.{ParsedX86_64}
 use Rattle.opcodes.specs.declared.words_x86_64.WordX86_64.{WordX86_64}
 
 -- The cases with their values. The five fields are one number, as they stand in the word.
@@ -50,17 +49,14 @@ parse_of w = by_kind (kind_of w) w
 
 -- The answer as an enum.
 
-abbrev pub word_of : OpcodeX86_64 → Word
-word_of OpcodeX86_64.Null = null
-word_of (OpcodeX86_64.FrameBased offset fields) = frame_based offset fields
-word_of (OpcodeX86_64.FramelessImmediate size) = frameless_immediate size
-word_of (OpcodeX86_64.FramelessIndirect place adjust) = frameless_indirect place adjust
-word_of (OpcodeX86_64.Dwarf low24) = dwarf low24
-word_of OpcodeX86_64.InvalidFrameless = invalid_frameless
-word_of (OpcodeX86_64.UnrecognizedKind kind) = unrecognized kind
-
-abbrev pub told : ParsedX86_64 → Told
-told p = record { word = word_of p.opcode; saved = p.saved_regs }
+abbrev pub told : OpcodeX86_64 → Told
+told OpcodeX86_64.Null = alone null
+told (OpcodeX86_64.FrameBased offset fields) = alone (frame_based offset fields)
+told (OpcodeX86_64.FramelessImmediate size saved) = beside (frameless_immediate size) saved
+told (OpcodeX86_64.FramelessIndirect place adjust saved) = beside (frameless_indirect place adjust) saved
+told (OpcodeX86_64.Dwarf low24) = alone (dwarf low24)
+told OpcodeX86_64.InvalidFrameless = alone invalid_frameless
+told (OpcodeX86_64.UnrecognizedKind kind) = alone (unrecognized kind)
 
 -- The answer in numbers: the case's, then its values, 0 where it has none.
 

@@ -4,7 +4,7 @@ ghost use Rattle.opcodes.specs.WordsArm64.{parse_of, told};
 
 use crate::words_arm64::WordArm64;
 
-#[derive(Clone, Copy)]
+#[derive(Clone, Copy, Debug, PartialEq, Eq)]
 pub enum OpcodeArm64 {
     Null,
     Frameless {
@@ -35,9 +35,8 @@ impl OpcodeArm64 {
         ensures { told result ≡ parse_of opcode }
     {
         let word = WordArm64::parse(opcode);
-        let answer = word.answer;
         let pairs = word.saved_pairs;
-        match answer {
+        match word.answer {
             0 => OpcodeArm64::Null,
             1 => OpcodeArm64::Frameless {
                 stack_size_in_bytes: (word.value % 0x1_0000) as u16,

@@ -14,7 +14,7 @@ use crate::pick::pick;
 // 24 bits, for 4 the kind. saved_pairs has the pairs of a frame-based word at the word's own bits: x19/x20 to x27/x28 at 0 to 4, d8/d9 to
 // d14/d15 at 8 to 11. What a case doesn't have is 0.
 #[repr(C)]
-#[derive(Clone, Copy)]
+#[derive(Clone, Copy, Debug, PartialEq, Eq)]
 pub struct WordArm64 {
     pub value: u32,
     pub answer: u8,
@@ -32,7 +32,7 @@ impl WordArm64 {
             return WordArm64 {
                 value: 0,
                 answer: 3,
-                saved_reg_pair_count: u32::count_ones(pairs) as u8,
+                saved_reg_pair_count: pairs.count_ones() as u8,
                 saved_pairs: pairs as u16,
             };
         }
@@ -62,7 +62,7 @@ fn value_of(kind: u8, opcode: u32) -> u32
     let low = pick(
         kind == OPCODE_KIND_ARM64_DWARF,
         opcode % 0x100_0000,
-        kind as u32,
+        u32::from(kind),
     );
     pick(
         kind == OPCODE_KIND_ARM64_FRAMELESS,

@@ -7,12 +7,12 @@ use crate::bitfield::OpcodeBitfield;
 use crate::consts::{OPCODE_KIND_X86_DWARF, OPCODE_KIND_X86_FRAMEBASED};
 use crate::pick::pick;
 use crate::x86_64::RegisterNameX86_64;
-use permutation::{Decoded, decode_permutation_6};
+use permutation::decode_permutation_6;
 
 // answer is 0 null, 1 frame-based, 2 frameless immediate, 3 frameless indirect, 4 DWARF, 5 invalid frameless, 6 unrecognised kind.
 // value goes by the answer: for 1 the offset in bytes, for 2 the size in bytes, for 3 the immediate's place, for 4 the 24 bits, for 6 the
 // kind. fields are a frame-based word's, saved_regs a frameless one's. What a case doesn't have is 0.
-#[derive(Clone, Copy)]
+#[derive(Clone, Copy, Debug, PartialEq, Eq)]
 pub struct WordX86_64 {
     pub value: u32,
     pub answer: u8,
@@ -31,7 +31,7 @@ impl WordX86_64 {
             return frameless(opcode);
         }
         if OPCODE_KIND_X86_DWARF < kind {
-            return alone(6, kind as u32, 0);
+            return alone(6, u32::from(kind), 0);
         }
         // For speed nothing jumps by the others: their values are picked.
         let based = kind == OPCODE_KIND_X86_FRAMEBASED;
@@ -62,10 +62,7 @@ fn frameless(opcode: u32) -> WordX86_64
     requires { kind_of opcode / 2 ≡ 1 }
     ensures { result ≡ numbers_of (parse_of opcode) }
 {
-    let permutation = decode_permutation_6(opcode / 1024 % 8, opcode % 1024);
-    let decoded = permutation.decoded;
-    let saved_regs = permutation.registers;
-    let Decoded::Accepted = decoded else {
+    let Ok(saved_regs) = decode_permutation_6(opcode / 1024 % 8, opcode % 1024) else {
         return alone(5, 0, 0);
     };
     let byte = opcode / 0x1_0000 % 256;

@@ -1,22 +1,23 @@
 // Opcode words of x86_64, and the registers that they list.
-ghost use Rattle.std.specs.Prelude.{◌≡◌, ℕ};
+ghost use Rattle.std.specs.Prelude.{◌≡◌};
 ghost use Rattle.opcodes.specs.Registers.{named_of, number_of, dwarf_of, number_at, field_named, told};
 ghost use Rattle.opcodes.specs.WordsX86 as x86;
 
 use crate::words_x86_64::WordX86_64;
 
-#[derive(Clone, Copy)]
+// With the registers' own numbers, from 1 on.
+#[derive(Clone, Copy, Debug, PartialEq, Eq)]
 pub enum RegisterNameX86_64 {
-    Rbx,
-    R12,
-    R13,
-    R14,
-    R15,
-    Rbp,
+    Rbx = 1,
+    R12 = 2,
+    R13 = 3,
+    R14 = 4,
+    R15 = 5,
+    Rbp = 6,
 }
 
 // What a number in a word names.
-#[derive(Clone, Copy)]
+#[derive(Clone, Copy, Debug, PartialEq, Eq)]
 pub enum Named {
     Absent,
     Register(RegisterNameX86_64),
@@ -42,18 +43,10 @@ impl RegisterNameX86_64 {
         }
     }
 
-    // The register's own number, from 1 on.
     pub fn number(self) -> u8
         ensures { result ≡ number_of self }
     {
-        match self {
-            RegisterNameX86_64::Rbx => 1,
-            RegisterNameX86_64::R12 => 2,
-            RegisterNameX86_64::R13 => 3,
-            RegisterNameX86_64::R14 => 4,
-            RegisterNameX86_64::R15 => 5,
-            RegisterNameX86_64::Rbp => 6,
-        }
+        self as u8
     }
 
     pub fn dwarf_number(self) -> u8
@@ -70,7 +63,8 @@ impl RegisterNameX86_64 {
     }
 }
 
-#[derive(Clone, Copy)]
+// The registers that a frameless word lists stand by their numbers: in the order in which they are popped, then zeros.
+#[derive(Clone, Copy, Debug, PartialEq, Eq)]
 pub enum OpcodeX86_64 {
     Null,
     FrameBased {
@@ -80,12 +74,14 @@ pub enum OpcodeX86_64 {
     },
     FramelessImmediate {
         stack_size_in_bytes: u16,
+        saved_regs: [u8; 6],
     },
     FramelessIndirect {
         // Where the code of the function has the four bytes of its `sub`'s immediate.
         immediate_offset_from_function_start: u8,
         // What to add to them: the return address, and the registers pushed before.
         stack_adjust_in_bytes: u8,
+        saved_regs: [u8; 6],
     },
     Dwarf {
         eh_frame_fde: u32,
@@ -94,53 +90,33 @@ pub enum OpcodeX86_64 {
     UnrecognizedKind(u8),
 }
 
-// The registers that a frameless word lists stand beside the enum, by their numbers: in the order in which they are popped, then zeros.
-#[derive(Clone, Copy)]
-pub struct ParsedX86_64 {
-    pub opcode: OpcodeX86_64,
-    pub saved_regs: [u8; 6],
-}
-
 impl OpcodeX86_64 {
-    pub fn parse(opcode: u32) -> ParsedX86_64
+    pub fn parse(opcode: u32) -> OpcodeX86_64
         ensures { x86.told result ≡ x86.parse_of opcode }
     {
         let word = WordX86_64::parse(opcode);
         let saved_regs = word.saved_regs;
-        ParsedX86_64 {
-            opcode: case_of(
-                word.answer,
-                word.value,
-                word.stack_adjust_in_bytes,
-                word.fields,
-            ),
-            saved_regs,
+        match word.answer {
+            0 => OpcodeX86_64::Null,
+            1 => OpcodeX86_64::FrameBased {
+                stack_offset_in_bytes: (word.value % 0x1_0000) as u16,
+                fields: word.fields,
+            },
+            2 => OpcodeX86_64::FramelessImmediate {
+                stack_size_in_bytes: (word.value % 0x1_0000) as u16,
+                saved_regs,
+            },
+            3 => OpcodeX86_64::FramelessIndirect {
+                immediate_offset_from_function_start: (word.value % 256) as u8,
+                stack_adjust_in_bytes: word.stack_adjust_in_bytes,
+                saved_regs,
+            },
+            4 => OpcodeX86_64::Dwarf {
+                eh_frame_fde: word.value,
+            },
+            5 => OpcodeX86_64::InvalidFrameless,
+            _ => OpcodeX86_64::UnrecognizedKind((word.value % 256) as u8),
         }
-    }
-}
-
-// What a word says that has these numbers.
-fn case_of(answer: u8, value: u32, adjust: u8, fields: u16) -> OpcodeX86_64
-    ensures { (w : ℕ) → x86.numbers answer value adjust fields (x86.parse_of w).saved ≡ x86.numbers_of (x86.parse_of w) → x86.word_of result ≡ (x86.parse_of w).word }
-{
-    match answer {
-        0 => OpcodeX86_64::Null,
-        1 => OpcodeX86_64::FrameBased {
-            stack_offset_in_bytes: (value % 0x1_0000) as u16,
-            fields,
-        },
-        2 => OpcodeX86_64::FramelessImmediate {
-            stack_size_in_bytes: (value % 0x1_0000) as u16,
-        },
-        3 => OpcodeX86_64::FramelessIndirect {
-            immediate_offset_from_function_start: (value % 256) as u8,
-            stack_adjust_in_bytes: adjust,
-        },
-        4 => OpcodeX86_64::Dwarf {
-            eh_frame_fde: value,
-        },
-        5 => OpcodeX86_64::InvalidFrameless,
-        _ => OpcodeX86_64::UnrecognizedKind((value % 256) as u8),
     }
 }
 
@@ -154,12 +130,9 @@ pub fn field(fields: u16, k: usize) -> Named
 fn number_at(fields: u16, k: usize) -> u8
     ensures { result ≡ number_at fields k }
 {
-    match k {
-        0 => (fields % 8) as u8,
-        1 => (fields / 8 % 8) as u8,
-        2 => (fields / 64 % 8) as u8,
-        3 => (fields / 512 % 8) as u8,
-        4 => (fields / 4096 % 8) as u8,
-        _ => 0,
+    if k < 5 {
+        ((fields >> (3 * k)) % 8) as u8
+    } else {
+        0
     }
 }

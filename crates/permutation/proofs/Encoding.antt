@@ -2,48 +2,45 @@
 -- Assumes nothing.
 use Prim.Native.Nat.{ℕ, suc, ◌+◌, ◌*◌, ◌<◌, ◌≤◌}
 use mathlib.Core.Path.{◌≡◌, refl, ap, sym, ◌∙◌, subst}
-use mathlib.Core.Bool.{Bool, true, false, ◌&&◌}
+use mathlib.Core.Bool.{Bool, true, false, not, ◌&&◌}
 use mathlib.Core.List.{List, [], ◌∷◌}
 use native.Mathlib.Omega.{arith}
 use native.Mathlib.Nat.{mul-le-mul}
 use lib.Dec.{eqb}
-use lib.ListN.{length, get_or, set, take, drop, replicate, length-set}
+use lib.ListN.{length, get_or, set, take, drop, length-set}
 use lib.Seq.{drop-cons, drop-length, length-take-le}
 use borrow.Author.Tests.{le-leb, lt-leb}
 use Rattle.permutation.specs.Permutation.{weights, weighted, named, before, without, ranks, member, every, Written, encoding, listed, encoding_of, encode_of}
-use Rattle.permutation.specs.Flags.{unused, zeros}
+use Rattle.permutation.specs.Flags.{unused, unset}
 use Rattle.permutation.proofs.Choosing.{drawn, drawn-is}
 use Rattle.permutation.proofs.Flagged.{used-up, flag-says, before-says}
 
 -- The first i of ys were drawn, and weighed into the sum; the rest is still to be drawn from the unused ones.
-pub record Turn (ws ys used : List ℕ) (sum i : ℕ) : Type 0 where
+pub record Turn (ws ys : List ℕ) (used : List Bool) (sum i : ℕ) : Type 0 where
   pub upto : i ≤ length ys
   pub flags : length used ≡ 6
   pub tested : drawn named ys ≡ drawn (unused used) (drop i ys)
   pub weighed : weighted ws (ranks named ys) ≡ sum + weighted (drop i ws) (ranks (unused used) (drop i ys))
   pub small : sum ≤ 720 * i
 
-pub start : (ws ys : List ℕ) → Turn ws ys (replicate 6 0) 0 0
-start ws ys = record { upto = omega arith; flags = refl; tested = refl; weighed = omega arith; small = omega arith }
-
-module _ (ws ys used : List ℕ) (sum i : ℕ) (t : Turn ws ys used sum i) (wl : i < length ws) (h : i < length ys) where
+module _ (ws ys : List ℕ) (used : List Bool) (sum i : ℕ) (t : Turn ws ys used sum i) (wl : i < length ws) (h : i < length ys) where
   -- a number that names no unused register
   pub refused : member (get_or ys i 0) (unused used) ≡ false → drawn named ys ≡ false
   refused m = t.tested ∙ rw (drop-cons ys i 0 h, m)
 
   -- the register at place x is drawn: its digit is weighed, and it is used
-  pub next : (x rank : ℕ) → suc x ≡ get_or ys i 0 → x < 6 → get_or used x 0 ≡ 0 → rank ≡ zeros (take x used) → rank ≤ 6 → get_or ws i 0 ≤ 120
-      → Turn ws ys (set used x 1) (sum + get_or ws i 0 * rank) (suc i)
+  pub next : (x rank : ℕ) → suc x ≡ get_or ys i 0 → x < 6 → get_or used x false ≡ false → rank ≡ unset (take x used) → rank ≤ 6 → get_or ws i 0 ≤ 120
+      → Turn ws ys (set used x true) (sum + get_or ws i 0 * rank) (suc i)
   next x rank ex xl e er r6 w120 =
       let xu : x < length used = omega (arith, t.flags) in
       let one : 1 + x ≡ get_or ys i 0 = omega arith in
       let m : member (get_or ys i 0) (unused used) ≡ true =
-      subst (λ (v : ℕ). member v (unused used) ≡ true) one (flag-says 1 used x xu ∙ ap (λ (v : ℕ). eqb v 0) e) in
-      let b : before (unused used) (get_or ys i 0) ≡ zeros (take x used) =
-      subst (λ (v : ℕ). before (unused used) v ≡ zeros (take x used)) one (before-says 1 used x xu e) in
-      let u : without (unused used) (before (unused used) (get_or ys i 0)) ≡ unused (set used x 1) =
+      subst (λ (v : ℕ). member v (unused used) ≡ true) one (flag-says 1 used x xu ∙ ap not e) in
+      let b : before (unused used) (get_or ys i 0) ≡ unset (take x used) =
+      subst (λ (v : ℕ). before (unused used) v ≡ unset (take x used)) one (before-says 1 used x xu e) in
+      let u : without (unused used) (before (unused used) (get_or ys i 0)) ≡ unused (set used x true) =
       ap (without (unused used)) b ∙ sym (used-up 1 used x xu e) in
-      let rest : List ℕ = ranks (unused (set used x 1)) (drop (suc i) ys) in
+      let rest : List ℕ = ranks (unused (set used x true)) (drop (suc i) ys) in
       let ranked : ranks (unused used) (drop i ys) ≡ rank ∷ rest =
       ap (ranks (unused used)) (drop-cons ys i 0 h)
       ∙ ap (λ (l : List ℕ). before (unused used) (get_or ys i 0) ∷ ranks l (drop (suc i) ys)) u
@@ -53,7 +50,7 @@ module _ (ws ys used : List ℕ) (sum i : ℕ) (t : Turn ws ys used sum i) (wl :
       ∙ ap (weighted (get_or ws i 0 ∷ drop (suc i) ws)) ranked in
       record {
         upto = h;
-        flags = length-set used x 1 ∙ t.flags;
+        flags = length-set used x true ∙ t.flags;
         tested =
             t.tested ∙ ap (drawn (unused used)) (drop-cons ys i 0 h)
             ∙ ap (λ (v : Bool). v && drawn (without (unused used) (before (unused used) (get_or ys i 0))) (drop (suc i) ys)) m
@@ -90,7 +87,7 @@ refuses-rest n xs h e =
     never true = refl
     never false = refl
 
-pub accepts : (n : ℕ) (xs used : List ℕ) (sum : ℕ) → n ≤ 6 → length xs ≡ 6 → Turn (weights n) (take n xs) used sum n
+pub accepts : (n : ℕ) (xs : List ℕ) (used : List Bool) (sum : ℕ) → n ≤ 6 → length xs ≡ 6 → Turn (weights n) (take n xs) used sum n
     → every (eqb 0) (drop n xs) ≡ true → encode_of n xs ≡ encoding sum
 unfolding encode_of
 accepts n xs used sum h l t z =

@@ -1,7 +1,7 @@
 -- The lists that the encoder takes, as docs/FORMAT.md, 8.3, describes them: exactly those that the test passes.
 -- Assumes nothing.
 use Prim.Native.Nat.{ℕ, zero, suc, ◌+◌, ◌-◌, ◌<◌, ◌≤◌}
-use mathlib.Core.Path.{◌≡◌, refl, sym, ◌∙◌, subst}
+use mathlib.Core.Path.{◌≡◌, refl, ap, sym, ◌∙◌, subst}
 use mathlib.Core.Bool.{Bool, true, false, not, ◌&&◌, ◌||◌}
 use mathlib.Core.List.{List, [], ◌∷◌}
 use native.Mathlib.Omega.{arith}
@@ -48,10 +48,10 @@ pub names : (x : ℕ) → 1 ≤ x → x ≤ 6 → member x named ≡ true
 names x l h =
     let e : 1 + (x - 1) ≡ x = omega arith in
     subst (λ (y : ℕ). member y named ≡ true) e
-    (flag-says 1 (replicate 6 0) (x - 1) (omega arith) ∙ eq-eqb _ 0 (get_or-replicate 6 (x - 1) 0 0 (omega arith)))
+    (flag-says 1 (replicate 6 false) (x - 1) (omega arith) ∙ ap not (get_or-replicate 6 (x - 1) false false (omega arith)))
 
 pub names-only : (x : ℕ) → member x named ≡ true → (1 ≤ x) × (x ≤ 6)
-names-only x m = let f = free_of (replicate 6 0) x m in (f.low, f.high)
+names-only x m = let f = free_of (replicate 6 false) x m in (f.low, f.high)
 
 -- A count up to 6 and six numbers: as many distinct ones from 1 to 6, then zeros.
 pub record Listed (n : ℕ) (xs : List ℕ) : Type 0 where

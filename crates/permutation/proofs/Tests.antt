@@ -8,7 +8,8 @@ use native.Mathlib.Nat.{le_of_suc-le-suc, not-suc-le-zero}
 use mathlib.Core.List.{List, [], ◌∷◌}
 use lib.Dec.{eqb}
 use lib.ListN.{length, get_or}
-use borrow.Author.Tests.{eqb-true, eqb-false}
+use borrow.Author.Tests.{eqb-true, eqb-false, ne_eqb}
+use Rattle.std.specs.List.{list_all}
 use Rattle.permutation.specs.Permutation.{every}
 
 pub both_left : (a b : Bool) → (a && b) ≡ true → a ≡ true
@@ -56,6 +57,12 @@ every-at f (x ∷ xs) t (suc i) h = every-at f xs (both_right (f x) (every f xs)
 pub at_every : (f : ℕ → Bool) (xs : List ℕ) → ((i : ℕ) → i < length xs → f (get_or xs i 0) ≡ true) → every f xs ≡ true
 at_every f [] t = refl
 at_every f (x ∷ xs) t = simp (t 0 (omega arith), at_every f xs (λ i h. t (suc i) (omega arith)))
+
+-- the test for zeros, as std has it
+pub every-zero : (xs : List ℕ) → every (eqb 0) xs ≡ list_all (λ (x : ℕ). eqb x 0) xs
+every-zero [] = refl
+every-zero (zero ∷ xs) = every-zero xs
+every-zero (suc x ∷ xs) = simp (ne_eqb 0 (suc x) (omega arith), ne_eqb (suc x) 0 (omega arith))
 
 -- what is none of the numbers below n, as the last arm of a match has it, is n or more
 abbrev pub None : ℕ → ℕ → Type 0

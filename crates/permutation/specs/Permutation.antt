@@ -1,10 +1,7 @@
 -- docs/FORMAT.md, 8.1 to 8.3: the permutation field of a frameless word, read and written.
 -- Assumes nothing.
-use Rattle.std.specs.Prelude.{ℕ, zero, suc, ◌+◌, ◌-◌, ◌*◌, ◌/◌, ◌%◌, List, [], ◌∷◌, ◌++◌, Bool, true, false, cond, not, ◌&&◌, ◌||◌, get_or, take, drop, replicate, leb, ltb, eqb}
-use Rattle.permutation.specs.declared.Decoded.{Decoded}
-use Rattle.permutation.specs.declared.Decoded.TheVariants.{Accepted, Refused}
-use Rattle.permutation.specs.declared.Permutation.{Permutation}
-use Rattle.permutation.specs.declared.Encoded.{Encoded}
+use Rattle.std.specs.Prelude.{ℕ, zero, suc, ◌+◌, ◌-◌, ◌*◌, ◌/◌, ◌%◌, List, [], ◌∷◌, ◌++◌, Bool, true, false, cond, not, ◌&&◌, ◌||◌, Result, Ok, Err, get_or, take, drop, replicate, leb, ltb, eqb}
+use Rattle.permutation.specs.declared.Error.{Error}
 
 -- 8.1. The weights stand as one row of six for each count, filled up with zeros.
 unfoldable pub rows : List (List ℕ)
@@ -106,22 +103,16 @@ encoding_of n xs = weighted (weights n) (ranks named (take n xs))
 unfoldable pub encode_of : ℕ → List ℕ → Written
 encode_of n xs = cond (leb n 6 && listed n xs) (encoding (encoding_of n xs)) (refused 28)
 
--- The number of each answer, 0 where nothing is refused.
-abbrev pub decoded_number : Decoded → ℕ
-decoded_number Accepted = 0
-decoded_number Refused = 23
+-- The number of each refusal.
+abbrev pub number_of : Error → ℕ
+number_of Error.Encoding = 23
+number_of Error.List = 28
 
-abbrev pub encoded_number : Encoded → ℕ
-encoded_number (Encoded.Encoding e) = 0
-encoded_number Encoded.Refused = 28
+-- A refused permutation is told with six places of 0.
+abbrev pub told : Result (List ℕ) Error → Told
+told (Ok xs) = accepted xs
+told (Err e) = refused (number_of e) (replicate 6 0)
 
-abbrev pub told_as : Decoded → List ℕ → Told
-told_as Accepted xs = accepted xs
-told_as Refused xs = refused (decoded_number Refused) xs
-
-abbrev pub told : Permutation → Told
-told p = told_as p.decoded p.registers
-
-abbrev pub told_encoded : Encoded → Written
-told_encoded (Encoded.Encoding e) = encoding e
-told_encoded Encoded.Refused = refused (encoded_number Encoded.Refused)
+abbrev pub told_encoded : Result ℕ Error → Written
+told_encoded (Ok e) = encoding e
+told_encoded (Err e) = refused (number_of e)

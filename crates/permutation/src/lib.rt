@@ -1,9 +1,9 @@
 // The permutation field of a frameless word: which registers were pushed, and in what order.
 #![tactic(auto)]
 
-ghost use Rattle.std.specs.Prelude.{◌≡◌, suc, ◌≤◌, ◌<◌, take, drop, replicate, eqb};
-ghost use Rattle.permutation.specs.Permutation.{Told, decode_of, encode_of, told, told_encoded, decoded_number, encoded_number, member, every};
-ghost use Rattle.permutation.specs.Flags.{unused, zeros};
+ghost use Rattle.std.specs.Prelude.{◌≡◌, suc, ◌≤◌, ◌<◌, length, eqb};
+ghost use Rattle.permutation.specs.Permutation.{decode_of, encode_of, told, told_encoded, number_of, member, every};
+ghost use Rattle.permutation.specs.Flags.{unused, unset};
 ghost use Rattle.permutation.specs.Table.{apart_of, kept_of, places_of};
 
 use table::row;
@@ -21,61 +21,34 @@ pub const WEIGHTS: [[u8; 6]; 7] = [
     [120, 24, 6, 2, 1, 0],
 ];
 
-#[derive(Clone, Copy)]
-pub enum Decoded {
-    Accepted,
-    Refused,
+// Why a permutation, or the list to encode, is refused.
+#[derive(Clone, Copy, Debug, PartialEq, Eq)]
+pub enum Error {
+    Encoding = 23,
+    List = 28,
 }
 
-// The registers' numbers, in the order in which they are popped; all 0 where the encoding is refused.
-#[derive(Clone, Copy)]
-pub struct Permutation {
-    pub decoded: Decoded,
-    pub registers: [u8; 6],
-}
-
-#[derive(Clone, Copy)]
-pub enum Encoded {
-    Encoding(u32),
-    Refused,
-}
-
-impl Decoded {
-    pub fn number(self) -> u32
-        ensures { result ≡ decoded_number self }
+impl Error {
+    // The refusal's number.
+    pub fn number(self) -> u8
+        ensures { result ≡ number_of self }
     {
-        match self {
-            Decoded::Accepted => 0,
-            Decoded::Refused => 23,
-        }
+        self as u8
     }
 }
 
-impl Encoded {
-    pub fn number(self) -> u32
-        ensures { result ≡ encoded_number self }
-    {
-        match self {
-            Encoded::Encoding(_) => 0,
-            Encoded::Refused => 28,
-        }
-    }
-}
-
-pub fn decode_permutation_6(count: u32, encoding: u32) -> Permutation
+// The registers' numbers, in the order in which they are popped, then zeros.
+pub fn decode_permutation_6(count: u32, encoding: u32) -> Result<[u8; 6], Error>
     ensures { told result ≡ decode_of count encoding }
 {
     if 6 < count {
-        return refused();
+        return Err(Error::Encoding);
     }
     let at = (encoding as usize) * apart(count);
     if 720 <= at {
-        return refused();
+        return Err(Error::Encoding);
     }
-    Permutation {
-        decoded: Decoded::Accepted,
-        registers: places(row(at) & kept(count)),
-    }
+    Ok(places(row(at) & kept(count)))
 }
 
 // How far apart the rows of neighbouring encodings are. For speed every count has its arm: those left to the last would be told by a jump.
@@ -97,6 +70,7 @@ fn apart(count: u32) -> usize
 }
 
 // The places of a row that are registers of the list.
+#[tactic(auto, unfolding(crate::specs::Permutation::bounds))]
 fn kept(count: u32) -> u64
     requires { count ≤ 6 }
     ensures { result ≡ kept_of count }
@@ -127,60 +101,40 @@ fn places(x: u64) -> [u8; 6]
     ]
 }
 
-fn refused() -> Permutation
-    ensures { told result ≡ Told.refused 23 (replicate 6 0) }
-{
-    Permutation {
-        decoded: Decoded::Refused,
-        registers: [0u8; 6],
-    }
-}
-
-pub fn encode_permutation_6(count: u32, registers: [u8; 6]) -> Encoded
+pub fn encode_permutation_6(count: u32, registers: [u8; 6]) -> Result<u32, Error>
     ensures { told_encoded result ≡ encode_of count registers }
 {
     if 6 < count {
-        return Encoded::Refused;
+        return Err(Error::List);
     }
     let n = count as usize;
     let row = WEIGHTS[n];
-    let mut used = [0u8; 6];
+    let mut used = [false; 6];
     let mut sum: u32 = 0;
-    let mut i = 0;
-    while i < n {
-        let x = registers[i];
-        if !is_unused(used, x) {
-            return Encoded::Refused;
+    let (listed, rest) = registers.split_at(n);
+    for (x, weight) in listed.iter().zip(&row) {
+        if !is_unused(used, *x) {
+            return Err(Error::List);
         }
-        let at = place(x);
-        sum += wide(row[i]) * rank(used, at);
-        used[at] = 1;
-        i += 1;
+        let at = place(*x);
+        sum += u32::from(*weight) * rank(&used[..at]);
+        used[at] = true;
     }
-    if are_zeros(registers, n) {
-        Encoded::Encoding(sum)
+    if are_zeros(rest) {
+        Ok(sum)
     } else {
-        Encoded::Refused
+        Err(Error::List)
     }
-}
-
-fn wide(x: u8) -> u32
-    ensures { result ≡ x }
-{
-    x as u32
 }
 
 // Whether x names a register that is not used yet.
-fn is_unused(used: [u8; 6], x: u8) -> bool
+fn is_unused(used: [bool; 6], x: u8) -> bool
     ensures { result ≡ member x (unused used) }
 {
-    if x == 0 {
-        return false;
+    match x {
+        1..=6 => !used[place(x)],
+        _ => false,
     }
-    if 6 < x {
-        return false;
-    }
-    used[place(x)] == 0
 }
 
 // Where the flag of register x stands.
@@ -188,35 +142,20 @@ fn place(x: u8) -> usize
     requires { 0 < x }
     ensures { suc result ≡ x }
 {
-    (x - 1) as usize
+    usize::from(x - 1)
 }
 
-// How many registers before a place are unused.
-fn rank(used: [u8; 6], at: usize) -> u32
-    requires { at ≤ 6 }
-    ensures { (result ≡ zeros (take at used)) × (result ≤ 6) }
+// How many registers are unused.
+fn rank(used: &[bool]) -> u32
+    requires { length used.now ≤ 6 }
+    ensures { (result ≡ unset used.now) × (result ≤ 6) }
 {
-    let mut n: u32 = 0;
-    let mut i = 0;
-    while i < at {
-        if used[i] == 0 {
-            n += 1;
-        }
-        i += 1;
-    }
-    n
+    used.iter().filter(|flag| !**flag).count() as u32
 }
 
-// Whether nothing is listed from a place on.
-fn are_zeros(registers: [u8; 6], from: usize) -> bool
-    ensures { result ≡ every (eqb 0) (drop from registers) }
+// Whether nothing is listed.
+fn are_zeros(registers: &[u8]) -> bool
+    ensures { result ≡ every (eqb 0) registers.now }
 {
-    let mut i = from;
-    while i < 6 {
-        if registers[i] != 0 {
-            return false;
-        }
-        i += 1;
-    }
-    true
+    registers.iter().all(|x| *x == 0)
 }

@@ -1,20 +1,24 @@
 -- The header's lists, case by case, on plain values; and what a parse grants.
 -- Assumes nothing.
-use Prim.Native.Nat.{ℕ, ◌*◌}
+use Prim.Native.Nat.{ℕ, ◌+◌, ◌-◌, ◌*◌, ◌≤◌}
 use mathlib.Core.Path.{◌≡◌, refl, ap, sym, ◌∙◌}
 use mathlib.Core.List.{List}
 use mathlib.Core.Bool.{Bool, true, false}
 use native.Mathlib.Omega.{arith}
-use borrow.Author.Tests.{eq-eqb, ne_eqb, eqb-true}
+use borrow.Author.Tests.{le-leb, eq-eqb, ne_eqb, eqb-true}
 use lib.Dec.{eqb}
-use lib.ListN.{length}
-use Rattle.reader.specs.Reader.{granted_of, word_at}
-use Rattle.reader.proofs.Laws.{fits, length_part}
+use lib.ListN.{length, take, drop}
+use Rattle.std.specs.Prelude.{Result, Ok, Err}
+use Rattle.reader.specs.Reader.{granted_of, word_at, Slice, slice, further, part_in}
+use Rattle.reader.proofs.Laws.{fits, length_part, placed, lies-inside}
 use Rattle.raw.specs.declared.Lists.{Lists}
-use Rattle.raw.specs.declared.Parsed.{Parsed}
 use Rattle.raw.specs.declared.Error.{Error}
-use Rattle.raw.specs.Checked.{Checked, good, refused, ◌>>◌, either, check, number_of}
-use Rattle.raw.specs.Raw.{grant_of, version_of, header_of, parse_of, pages_of, lists_told}
+use Rattle.raw.specs.Checked.{Checked, good, refused, ◌>>◌, either, check, number_of, told}
+use Rattle.raw.specs.Raw.{grant_of, version_of, header_of, parse_of, pages_of}
+
+-- a part that lies inside
+pub part-inside : (x : Slice) (o n : ℕ) → o + n ≤ length x.bytes → (p : ℕ × ℕ) → p ≡ further x.start o → slice p (take (o + n - o) (drop o x.bytes)) ≡ part_in x o n
+part-inside x o n h p e = placed x.bytes o n x.start p _ (e ∙ simp (le-leb o (length x.bytes) (omega arith))) (lies-inside x.bytes o n)
 
 module _ (s : List ℕ) where
   module _ (l : Lists) where
@@ -23,18 +27,6 @@ module _ (s : List ℕ) where
 
     abbrev pages_granted : Bool
     pages_granted = granted_of (12 * l.pages_len) s l.pages_offset
-
-    pub no-globals : globals_granted ≡ false → refused 2 ≡ grant_of s l
-    unfolding grant_of
-    no-globals t = simp t
-
-    pub no-pages : globals_granted ≡ true → pages_granted ≡ false → refused 3 ≡ grant_of s l
-    unfolding grant_of
-    no-pages t u = simp (t, u)
-
-    pub both-lists : globals_granted ≡ true → pages_granted ≡ true → good l ≡ grant_of s l
-    unfolding grant_of
-    both-lists t u = simp (t, u)
 
     -- lists that were granted are these, and lie in the section
     pub granted : (m : Lists) → grant_of s l ≡ good m → (m ≡ l) × (globals_granted ≡ true) × (pages_granted ≡ true)
@@ -51,13 +43,17 @@ module _ (s : List ℕ) where
     unfolding pages_of
     length-pages t = length_part s l.pages_offset (12 * l.pages_len) (fits (12 * l.pages_len) s l.pages_offset t)
 
+  -- so each ends inside it
+  module _ (l : Lists) (g : grant_of s l ≡ good l) where
+    pub globals-inside : l.global_opcodes_offset + 4 * l.global_opcodes_len ≤ length s
+    globals-inside = fits (4 * l.global_opcodes_len) s l.global_opcodes_offset (granted l l g).1
+
+    pub pages-inside : l.pages_offset + 12 * l.pages_len ≤ length s
+    pages-inside = fits (12 * l.pages_len) s l.pages_offset (granted l l g).2
+
   -- and they are granted again
   pub granted-again : (l m : Lists) → grant_of s l ≡ good m → grant_of s m ≡ good m
   granted-again l m e = ap (grant_of s) (granted l m e).0 ∙ e
-
-  pub no_header : granted_of 28 s 0 ≡ false → refused 1 ≡ parse_of s
-  unfolding parse_of
-  no_header t = simp t
 
   pub other-version : granted_of 28 s 0 ≡ true → (version_of s ≡ 1 → ⊥) → refused 15 ≡ parse_of s
   unfolding parse_of
@@ -90,12 +86,12 @@ module _ (s : List ℕ) where
 
 -- a call on lists: what it answers where they are refused, and where they are there
 module _ {B : Type 0} (otherwise : ℕ → B) (f : Lists → B) where
-  module _ (w : Parsed) (t : Checked Lists) (e : lists_told w ≡ t) where
-    pub where-whole : (m : Lists) (x : B) → w ≡ Parsed.Whole m → x ≡ f m → x ≡ either otherwise f t
-    where-whole m x q o = o ∙ ap (either otherwise f) (ap lists_told (sym q) ∙ e)
+  module _ (w : Result Lists Error) (t : Checked Lists) (e : told w ≡ t) where
+    pub where-whole : (m : Lists) (x : B) → w ≡ Ok m → x ≡ f m → x ≡ either otherwise f t
+    where-whole m x q o = o ∙ ap (either otherwise f) (ap told (sym q) ∙ e)
 
-    pub where-refused : (k : Error) (x : B) → w ≡ Parsed.Refused k → x ≡ otherwise (number_of k) → x ≡ either otherwise f t
-    where-refused k x q o = o ∙ ap (either otherwise f) (ap lists_told (sym q) ∙ e)
+    pub where-refused : (k : Error) (x : B) → w ≡ Err k → x ≡ otherwise (number_of k) → x ≡ either otherwise f t
+    where-refused k x q o = o ∙ ap (either otherwise f) (ap told (sym q) ∙ e)
 
   -- after a parse, the call on its lists answers as the call on the bytes alone
   pub as-parsed : (s : List ℕ) (l : Lists) → parse_of s ≡ good l → either otherwise f (grant_of s l) ≡ either otherwise f (parse_of s)

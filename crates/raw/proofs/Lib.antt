@@ -1,4 +1,6 @@
+pub mod Checks
 pub mod Grants
-pub mod Opens
-pub mod One
 pub mod Numbers
+pub mod One
+pub mod Opens
+pub mod Sections

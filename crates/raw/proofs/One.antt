@@ -6,12 +6,13 @@ use mathlib.Core.Bool.{cond}
 use mathlib.Mathlib.Logic.Function.Defs.{LeftInverse, LeftInverse-Injective}
 use lib.Dec.{eqb}
 use Rattle.raw.specs.declared.Error.{Error}
-use Rattle.raw.specs.declared.Lists.{Lists}
-use Rattle.raw.specs.declared.Page.{Page}
-use Rattle.raw.specs.declared.Parsed.{Parsed}
-use Rattle.raw.specs.declared.Opened.{Opened}
-use Rattle.raw.specs.Checked.{Checked, either, number_of}
-use Rattle.raw.specs.Raw.{lists_told, page_told}
+use Rattle.std.specs.Prelude.{Result, Ok, Err}
+use denote.Slice.{shr_slice_vals}
+use Rattle.reader.specs.Reader.{slice_told}
+use Rattle.reader.proofs.One.{one-slice}
+use Rattle.raw.specs.declared.section.Section.{Section}
+use Rattle.raw.specs.Section.{Standing, section_told}
+use Rattle.raw.specs.Checked.{Checked, good, refused, number_of, told}
 
 abbrev pub error_of : ℕ → Error
 error_of k =
@@ -47,23 +48,41 @@ error-back Error.AddressTooLarge = refl
 error-back Error.LocalIndex = refl
 error-back Error.WrongVersion = refl
 
--- the answer that an enum of two cases gives for what was told
-abbrev pub answer_for : {A B : Type 0} → (A → B) → (Error → B) → Checked A → B
-answer_for whole refusal = either (λ k. refusal (error_of k)) whole
+abbrev pub answer_of : {A : Type 0} → Checked A → Result A Error
+answer_of (good x) = Ok x
+answer_of (refused k) = Err (error_of k)
 
-pub one_told : {A B : Type 0} (whole : A → B) (refusal : Error → B) (told : B → Checked A) → LeftInverse (answer_for whole refusal) told → (t : Checked A) (x y : B) → told x ≡ t → told y ≡ t → x ≡ y
-one_told whole refusal told back t x y p q = LeftInverse-Injective (answer_for whole refusal) told back x y (p ∙ sym q)
+answer-back : {A : Type 0} → LeftInverse (answer_of {A = A}) told
+answer-back (Ok x) = refl
+answer-back (Err e) = ap Err (error-back e)
 
-lists_back : LeftInverse (answer_for Parsed.Whole Parsed.Refused) lists_told
-lists_back (Parsed.Whole l) = refl
-lists_back (Parsed.Refused e) = ap Parsed.Refused (error-back e)
+pub one_told : {A : Type 0} (t : Checked A) (x y : Result A Error) → told x ≡ t → told y ≡ t → x ≡ y
+one_told t x y p q = LeftInverse-Injective answer_of told answer-back x y (p ∙ sym q)
 
-pub one-parsed : (t : Checked Lists) (x y : Parsed) → lists_told x ≡ t → lists_told y ≡ t → x ≡ y
-one-parsed = one_told Parsed.Whole Parsed.Refused lists_told lists_back
+-- what is told alike was there or refused alike
+module _ {A : Type 0} where
+  abbrev there : A → Checked A → A
+  there d (good x) = x
+  there d (refused k) = d
 
-page-back : LeftInverse (answer_for Opened.Page Opened.Refused) page_told
-page-back (Opened.Page pg) = refl
-page-back (Opened.Refused e) = ap Opened.Refused (error-back e)
+  abbrev number : Checked A → ℕ
+  number (good x) = 0
+  number (refused k) = k
 
-pub one-opened : (t : Checked Page) (x y : Opened) → page_told x ≡ t → page_told y ≡ t → x ≡ y
-one-opened = one_told Opened.Page Opened.Refused page_told page-back
+  pub one-good : (x y : A) → good x ≡ good y → x ≡ y
+  one-good x y e = ap (there x) e
+
+  pub one-error : (d e : Error) → ◌≡◌ {A = Checked A} (refused (number_of d)) (refused (number_of e)) → d ≡ e
+  one-error d e q = LeftInverse-Injective error_of number_of error-back d e (ap number q)
+
+-- two sections that were told alike: the same slice in the machine, the same bytes and the same lists; and two refusals
+module _ (t : Checked Standing) where
+  pub one-section : (x y : Section) → section_told (Ok x) ≡ t → section_told (Ok y) ≡ t → (shr_slice_vals x.bytes ≡ shr_slice_vals y.bytes) × (x.bytes.now ≡ y.bytes.now) × (x.lists ≡ y.lists)
+  one-section x y p q =
+      let told : Section → Standing = λ (z : Section). record { bytes = slice_told z.bytes; lists = z.lists } in
+      let same : told x ≡ told y = one-good (told x) (told y) (p ∙ sym q) in
+      let bytes = one-slice (told y).bytes x.bytes y.bytes (ap (λ (m : Standing). m.bytes) same) refl in
+      (bytes.0, bytes.1, ap (λ (m : Standing). m.lists) same)
+
+  pub one-refused : (d e : Error) → section_told (Err d) ≡ t → section_told (Err e) ≡ t → d ≡ e
+  one-refused d e p q = one-error d e (p ∙ sym q)

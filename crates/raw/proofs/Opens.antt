@@ -8,56 +8,24 @@ use native.Mathlib.Omega.{arith}
 use borrow.Author.Tests.{eq-eqb, ne_eqb}
 use lib.Dec.{eqb}
 use lib.ListN.{length, take, drop}
-use Rattle.reader.specs.Reader.{value, outside, granted_of, read_of, word_at, Bytes}
+use Rattle.std.specs.Prelude.{Some, None}
+use Rattle.reader.specs.Reader.{granted_of, read_of, word_at, Bytes}
 use Rattle.reader.proofs.Laws.{tail, fits, was-word, was_granted, was-refused, bounded-word, bytes-tail}
 use Rattle.search.specs.Search.{size_of}
-use Rattle.raw.specs.declared.Kind.{Kind}
 use Rattle.raw.specs.declared.Page.{Page}
-use Rattle.raw.specs.declared.Opened.{Opened}
-use Rattle.raw.specs.declared.Error.{Error}
-use Rattle.raw.specs.Checked.{Checked, good, refused, ◌>>=◌, ◌>>◌, check, number_of}
-use Rattle.raw.specs.Raw.{regular_of, compressed_of, by_kind, page_of, locals_granted, open_of, layout, page_told}
-
-module _ (page : List ℕ) where
-  pub no-regular : granted_of 8 page 0 ≡ false → refused 7 ≡ regular_of page
-  unfolding regular_of
-  no-regular t = simp t
-
-  module _ (a n : ℕ) (ea : a ≡ word_at 2 page 4) (en : n ≡ word_at 2 page 6) (t : granted_of 8 page 0 ≡ true) where
-    pub no-regular-functions : granted_of (8 * n) page a ≡ false → refused 8 ≡ regular_of page
-    unfolding regular_of
-    no-regular-functions u = simp (sym ea, sym en, t, u)
-
-    pub is-regular : granted_of (8 * n) page a ≡ true
-        → good (record { kind = Kind.Regular; base = 0; functions_offset = a; functions_len = n; local_opcodes_offset = 0; local_opcodes_len = 0 }) ≡ regular_of page
-    unfolding regular_of
-    is-regular u = simp (sym ea, sym en, t, u)
-
-  module _ (first : ℕ) where
-    pub no-compressed : granted_of 12 page 0 ≡ false → refused 9 ≡ compressed_of page first
-    unfolding compressed_of
-    no-compressed t = simp t
-
-    module _ (a n b m : ℕ) (ea : a ≡ word_at 2 page 4) (en : n ≡ word_at 2 page 6) (eb : b ≡ word_at 2 page 8) (em : m ≡ word_at 2 page 10) (t : granted_of 12 page 0 ≡ true) where
-      pub no-compressed-functions : granted_of (4 * n) page a ≡ false → refused 10 ≡ compressed_of page first
-      unfolding compressed_of
-      no-compressed-functions u = simp (sym ea, sym en, t, u)
-
-      pub is-compressed : granted_of (4 * n) page a ≡ true
-          → good (record { kind = Kind.Compressed; base = first; functions_offset = a; functions_len = n; local_opcodes_offset = b; local_opcodes_len = m }) ≡ compressed_of page first
-      unfolding compressed_of
-      is-compressed u = simp (sym ea, sym en, sym eb, sym em, t, u)
+use Rattle.raw.specs.Checked.{Checked, good, refused, ◌>>=◌, ◌>>◌, check}
+use Rattle.raw.specs.Raw.{regular_of, compressed_of, by_kind, page_of, locals_granted, open_of, layout}
 
 module _ (s : List ℕ) (offset first : ℕ) where
   -- `&section[page_offset..]`, as the callee's contract has it
   abbrev pub lent : List ℕ
   lent = take (length s - offset) (drop offset s)
 
-  pub no_kind : read_of 4 s offset ≡ outside → refused 4 ≡ page_of s offset first
+  pub no_kind : read_of 4 s offset ≡ None → refused 4 ≡ page_of s offset first
   unfolding page_of
   no_kind e = simp (was-refused 4 s offset e)
 
-  module _ (k : ℕ) (e : read_of 4 s offset ≡ value k) where
+  module _ (k : ℕ) (e : read_of 4 s offset ≡ Some k) where
     pub kind-inside : offset + 4 ≤ length s
     kind-inside = fits 4 s offset (was_granted 4 s offset k e)
 
@@ -89,29 +57,6 @@ module _ (s : List ℕ) (offset first : ℕ) where
       by-test : (b : Bool) → granted_of 4 s offset ≡ b → (◌>>◌ (check 4 b) (by_kind (word_at 4 s offset) (drop offset s) first)) ≡ good pg → offset + 4 ≤ length s
       by-test true q r = fits 4 s offset q
       by-test false q r = absurd (let z : ◌≡◌ {A = ℕ} 0 1 = cc in omega arith)
-
-  -- opened whole
-  pub still-refused : (w : Opened) (e : Error) → page_told w ≡ page_of s offset first → w ≡ Opened.Refused e → page_told w ≡ open_of s offset first
-  unfolding open_of
-  still-refused w e t p =
-      let q : page_of s offset first ≡ refused (number_of e) = sym t ∙ ap page_told p in
-      ap page_told p ∙ simp q
-
-  module _ (w : Opened) (pg : Page) (t : page_told w ≡ page_of s offset first) (p : w ≡ Opened.Page pg) where
-    pub reads : page_of s offset first ≡ good pg
-    reads = sym t ∙ ap page_told p
-
-    pub opens-whole : locals_granted lent pg ≡ true → good pg ≡ open_of s offset first
-    unfolding open_of
-    opens-whole u =
-        let v : locals_granted (drop offset s) pg ≡ true = ap (λ (page : List ℕ). locals_granted page pg) (sym (tail offset s)) ∙ u in
-        simp (reads, v)
-
-    pub no-locals : locals_granted lent pg ≡ false → refused 11 ≡ open_of s offset first
-    unfolding open_of
-    no-locals u =
-        let v : locals_granted (drop offset s) pg ≡ false = ap (λ (page : List ℕ). locals_granted page pg) (sym (tail offset s)) ∙ u in
-        simp (reads, v)
 
   -- a page that opens whole is read, and its local opcodes are there
   pub opened-reads : (pg : Page) → open_of s offset first ≡ good pg → (page_of s offset first ≡ good pg) × (locals_granted (drop offset s) pg ≡ true)

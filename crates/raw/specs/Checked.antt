@@ -1,6 +1,6 @@
 -- docs/FORMAT.md, 11: checks one after the other, and the numbers of the refusals.
 -- Assumes nothing.
-use Rattle.std.specs.Prelude.{ℕ, Bool, true, false}
+use Rattle.std.specs.Prelude.{ℕ, Bool, true, false, Result, Ok, Err}
 use Rattle.raw.specs.declared.Error.{Error}
 
 -- what was asked for, or the number of the first check that refuses it
@@ -43,3 +43,8 @@ number_of Error.InvalidPageEntryFirstAddress = 12
 number_of Error.AddressTooLarge = 13
 number_of Error.LocalIndex = 14
 number_of Error.WrongVersion = 15
+
+-- what an answer tells: what was asked for, or the refusal's number
+abbrev pub told : {A : Type 0} → Result A Error → Checked A
+told (Ok x) = good x
+told (Err e) = refused (number_of e)

@@ -8,9 +8,7 @@ use Rattle.raw.specs.declared.Lists.{Lists}
 use Rattle.raw.specs.declared.Kind.{Kind}
 use Rattle.raw.specs.declared.Page.{Page}
 use Rattle.raw.specs.declared.PageEntry.{PageEntry}
-use Rattle.raw.specs.declared.Parsed.{Parsed}
-use Rattle.raw.specs.declared.Opened.{Opened}
-use Rattle.raw.specs.Checked.{Checked, good, refused, ◌>>=◌, ◌>>◌, check, number_of}
+use Rattle.raw.specs.Checked.{Checked, good, refused, ◌>>=◌, ◌>>◌, check}
 
 -- 2.1: the two lists lie in the section
 unfoldable pub grant_of : List ℕ → Lists → Checked Lists
@@ -89,12 +87,3 @@ open_of s offset first = do
 abbrev pub layout : Kind → Layout
 layout Kind.Regular = Layout.Regular
 layout Kind.Compressed = Layout.Compressed
-
--- what the answers tell
-abbrev pub lists_told : Parsed → Checked Lists
-lists_told (Parsed.Whole l) = good l
-lists_told (Parsed.Refused e) = refused (number_of e)
-
-abbrev pub page_told : Opened → Checked Page
-page_told (Opened.Page pg) = good pg
-page_told (Opened.Refused e) = refused (number_of e)

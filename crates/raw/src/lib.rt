@@ -1,12 +1,15 @@
 // A section's lists and pages.
 #![tactic(auto)]
 
+pub mod section;
+
 ghost use Rattle.std.specs.Prelude.{◌≡◌, ◌+◌, ◌*◌, ◌≤◌, ◌<◌, length, drop};
 ghost use Rattle.reader.specs.Reader.{granted_of, slice_told, part_at};
-ghost use Rattle.raw.specs.Checked.{number_of};
-ghost use Rattle.raw.specs.Raw.{grant_of, header_of, parse_of, globals_of, pages_of, first_in, offset_in, entry_of, regular_of, compressed_of, by_kind, page_of, locals_granted, open_of, lists_told, page_told};
+ghost use Rattle.raw.specs.Checked.{number_of, told, check};
+ghost use Rattle.raw.specs.Raw.{grant_of, header_of, parse_of, globals_of, pages_of, first_in, offset_in, entry_of, regular_of, compressed_of, page_of, locals_granted, layout, open_of};
 
-use reader::Read32;
+pub use crate::section::Section;
+use reader::{Number, read_or_0};
 use search::Layout;
 
 // The one version of the format that is read.
@@ -18,24 +21,24 @@ pub const PAGE_KIND_REGULAR: u32 = 2;
 
 pub const PAGE_KIND_COMPRESSED: u32 = 3;
 
-// Why a section is refused.
-#[derive(Clone, Copy)]
+// Why a section is refused, by the numbers of docs/FORMAT.md, 11.
+#[derive(Clone, Copy, Debug, PartialEq, Eq)]
 pub enum Error {
-    Header,
-    GlobalOpcodes,
-    Pages,
-    PageKind,
-    UnexpectedSentinelPage,
-    InvalidPageKind,
-    RegularPage,
-    RegularPageFunctions,
-    CompressedPage,
-    CompressedPageFunctions,
-    LocalOpcodes,
-    InvalidPageEntryFirstAddress,
-    AddressTooLarge,
-    LocalIndex,
-    WrongVersion,
+    Header = 1,
+    GlobalOpcodes = 2,
+    Pages = 3,
+    PageKind = 4,
+    UnexpectedSentinelPage = 5,
+    InvalidPageKind = 6,
+    RegularPage = 7,
+    RegularPageFunctions = 8,
+    CompressedPage = 9,
+    CompressedPageFunctions = 10,
+    LocalOpcodes = 11,
+    InvalidPageEntryFirstAddress = 12,
+    AddressTooLarge = 13,
+    LocalIndex = 14,
+    WrongVersion = 15,
 }
 
 impl Error {
@@ -43,23 +46,7 @@ impl Error {
     pub fn number(self) -> u8
         ensures { result ≡ number_of self }
     {
-        match self {
-            Error::Header => 1,
-            Error::GlobalOpcodes => 2,
-            Error::Pages => 3,
-            Error::PageKind => 4,
-            Error::UnexpectedSentinelPage => 5,
-            Error::InvalidPageKind => 6,
-            Error::RegularPage => 7,
-            Error::RegularPageFunctions => 8,
-            Error::CompressedPage => 9,
-            Error::CompressedPageFunctions => 10,
-            Error::LocalOpcodes => 11,
-            Error::InvalidPageEntryFirstAddress => 12,
-            Error::AddressTooLarge => 13,
-            Error::LocalIndex => 14,
-            Error::WrongVersion => 15,
-        }
+        self as u8
     }
 }
 
@@ -73,16 +60,22 @@ pub struct Lists {
     pub pages_len: u32,
 }
 
-#[derive(Clone, Copy)]
-pub enum Parsed {
-    Whole(Lists),
-    Refused(Error),
-}
-
-#[derive(Clone, Copy)]
+#[derive(Clone, Copy, Debug, PartialEq, Eq)]
 pub enum Kind {
     Regular,
     Compressed,
+}
+
+// How the entries of a page's functions lie.
+impl From<Kind> for Layout {
+    ghost from_gives = { λ kind answer. answer ≡ layout kind };
+
+    fn from(kind: Kind) -> Layout {
+        match kind {
+            Kind::Regular => Layout::Regular,
+            Kind::Compressed => Layout::Compressed,
+        }
+    }
 }
 
 // An entry of the list of pages: the page's first address and its offset in the section; and where the next page starts.
@@ -104,46 +97,48 @@ pub struct Page {
     pub local_opcodes_len: u32,
 }
 
-#[derive(Clone, Copy)]
-pub enum Opened {
-    Page(Page),
-    Refused(Error),
+// Nothing, or the error where a check fails.
+pub fn check(passed: bool, error: Error) -> Result<(), Error>
+    ensures { told result ≡ check (number_of error) passed }
+{
+    if passed { Ok(()) } else { Err(error) }
 }
 
 // The lists, if they lie in the section: any numbers may come in.
-pub fn grant(s: &[u8], lists: Lists) -> Parsed
-    ensures { lists_told result ≡ grant_of s.now lists }
+#[tactic(auto, unfolding(crate::specs::Raw::grant_of))]
+pub fn grant(s: &[u8], lists: Lists) -> Result<Lists, Error>
+    ensures { told result ≡ grant_of s.now lists }
 {
     let opcodes_at = lists.global_opcodes_offset;
     let opcodes = lists.global_opcodes_len;
     let pages_at = lists.pages_offset;
     let pages = lists.pages_len;
-    if !reader::is_granted(s, opcodes_at as usize, 4 * opcodes as usize) {
-        return Parsed::Refused(Error::GlobalOpcodes);
-    }
-    if !reader::is_granted(s, pages_at as usize, search::PAGE_ENTRY * pages as usize) {
-        return Parsed::Refused(Error::Pages);
-    }
-    Parsed::Whole(lists)
+    check(
+        reader::is_granted(s, opcodes_at as usize, 4 * opcodes as usize),
+        Error::GlobalOpcodes,
+    )?;
+    check(
+        reader::is_granted(s, pages_at as usize, search::PAGE_ENTRY * pages as usize),
+        Error::Pages,
+    )?;
+    Ok(lists)
 }
 
 // The lists that the section's header names, if its version is the one that is read.
-pub fn parse(s: &[u8]) -> Parsed
-    ensures { lists_told result ≡ parse_of s.now }
+#[tactic(auto, unfolding(crate::specs::Raw::parse_of, crate::specs::Raw::header_of))]
+pub fn parse(s: &[u8]) -> Result<Lists, Error>
+    ensures { told result ≡ parse_of s.now }
 {
-    if !reader::is_granted(s, 0, 28) {
-        return Parsed::Refused(Error::Header);
-    }
-    if reader::u32_or_0(s, 0) != UNWIND_SECTION_VERSION {
-        return Parsed::Refused(Error::WrongVersion);
-    }
+    check(reader::is_granted(s, 0, 28), Error::Header)?;
+    let version: u32 = read_or_0(s, 0);
+    check(version == UNWIND_SECTION_VERSION, Error::WrongVersion)?;
     grant(
         s,
         Lists {
-            global_opcodes_offset: reader::u32_or_0(s, 4),
-            global_opcodes_len: reader::u32_or_0(s, 8),
-            pages_offset: reader::u32_or_0(s, 20),
-            pages_len: reader::u32_or_0(s, 24),
+            global_opcodes_offset: read_or_0(s, 4),
+            global_opcodes_len: read_or_0(s, 8),
+            pages_offset: read_or_0(s, 20),
+            pages_len: read_or_0(s, 24),
         },
     )
 }
@@ -169,13 +164,13 @@ pub fn pages(s: &[u8], lists: Lists) -> &[u8]
 pub fn first_address(pages: &[u8], p: u32) -> u32
     ensures { result ≡ first_in pages.now p }
 {
-    search::key(pages, Layout::Pages, p)
+    search::key::<search::PageEntry>(pages, p)
 }
 
 pub fn page_offset(pages: &[u8], p: u32) -> u32
     ensures { result ≡ offset_in pages.now p }
 {
-    reader::u32_or_0(pages, search::PAGE_ENTRY * p as usize + 4)
+    read_or_0(pages, search::PAGE_ENTRY * p as usize + 4)
 }
 
 // For speed what an entry and the next one have is tested at once. The last entry has no next one.
@@ -191,24 +186,24 @@ pub fn page_entry(pages: &[u8], p: u32) -> PageEntry
         };
     }
     PageEntry {
-        first: reader::u32_or_0(pages, at),
-        offset: reader::u32_or_0(pages, at + 4),
-        next: reader::u32_or_0(pages, at + search::PAGE_ENTRY),
+        first: read_or_0(pages, at),
+        offset: read_or_0(pages, at + 4),
+        next: read_or_0(pages, at + search::PAGE_ENTRY),
     }
 }
 
-fn regular(page: &[u8]) -> Opened
-    ensures { page_told result ≡ regular_of page.now }
+#[tactic(auto, unfolding(crate::specs::Raw::regular_of))]
+fn regular(page: &[u8]) -> Result<Page, Error>
+    ensures { told result ≡ regular_of page.now }
 {
-    if !reader::is_granted(page, 0, 8) {
-        return Opened::Refused(Error::RegularPage);
-    }
-    let at = reader::u16_or_0(page, 4) as u32;
-    let n = reader::u16_or_0(page, 6) as u32;
-    if !reader::is_granted(page, at as usize, search::REGULAR_ENTRY * n as usize) {
-        return Opened::Refused(Error::RegularPageFunctions);
-    }
-    Opened::Page(Page {
+    check(reader::is_granted(page, 0, 8), Error::RegularPage)?;
+    let at = u32::from(read_or_0::<u16>(page, 4));
+    let n = u32::from(read_or_0::<u16>(page, 6));
+    check(
+        reader::is_granted(page, at as usize, search::REGULAR_ENTRY * n as usize),
+        Error::RegularPageFunctions,
+    )?;
+    Ok(Page {
         kind: Kind::Regular,
         base: 0,
         functions_offset: at,
@@ -218,20 +213,20 @@ fn regular(page: &[u8]) -> Opened
     })
 }
 
-fn compressed(page: &[u8], first: u32) -> Opened
-    ensures { page_told result ≡ compressed_of page.now first }
+#[tactic(auto, unfolding(crate::specs::Raw::compressed_of))]
+fn compressed(page: &[u8], first: u32) -> Result<Page, Error>
+    ensures { told result ≡ compressed_of page.now first }
 {
-    if !reader::is_granted(page, 0, 12) {
-        return Opened::Refused(Error::CompressedPage);
-    }
-    let at = reader::u16_or_0(page, 4) as u32;
-    let n = reader::u16_or_0(page, 6) as u32;
-    let locals_at = reader::u16_or_0(page, 8) as u32;
-    let locals = reader::u16_or_0(page, 10) as u32;
-    if !reader::is_granted(page, at as usize, search::COMPRESSED_ENTRY * n as usize) {
-        return Opened::Refused(Error::CompressedPageFunctions);
-    }
-    Opened::Page(Page {
+    check(reader::is_granted(page, 0, 12), Error::CompressedPage)?;
+    let at = u32::from(read_or_0::<u16>(page, 4));
+    let n = u32::from(read_or_0::<u16>(page, 6));
+    let locals_at = u32::from(read_or_0::<u16>(page, 8));
+    let locals = u32::from(read_or_0::<u16>(page, 10));
+    check(
+        reader::is_granted(page, at as usize, search::COMPRESSED_ENTRY * n as usize),
+        Error::CompressedPageFunctions,
+    )?;
+    Ok(Page {
         kind: Kind::Compressed,
         base: first,
         functions_offset: at,
@@ -242,23 +237,19 @@ fn compressed(page: &[u8], first: u32) -> Opened
 }
 
 // The page at the offset, without its local opcodes' check: as lookup reads it.
-pub fn read_page(s: &[u8], offset: u32, first: u32) -> Opened
-    ensures { page_told result ≡ page_of s.now offset first }
+pub fn read_page(s: &[u8], offset: u32, first: u32) -> Result<Page, Error>
+    ensures { told result ≡ page_of s.now offset first }
 {
     let page_offset = offset as usize;
-    let Read32::Value(kind) = reader::read_u32(s, page_offset) else {
-        return Opened::Refused(Error::PageKind);
+    let Some(kind) = u32::read(s, page_offset) else {
+        return Err(Error::PageKind);
     };
-    if kind == PAGE_KIND_REGULAR {
-        return regular(&s[page_offset..]);
+    match kind {
+        PAGE_KIND_REGULAR => regular(&s[page_offset..]),
+        PAGE_KIND_COMPRESSED => compressed(&s[page_offset..], first),
+        PAGE_KIND_SENTINEL => Err(Error::UnexpectedSentinelPage),
+        _ => Err(Error::InvalidPageKind),
     }
-    if kind == PAGE_KIND_COMPRESSED {
-        return compressed(&s[page_offset..], first);
-    }
-    if kind == PAGE_KIND_SENTINEL {
-        return Opened::Refused(Error::UnexpectedSentinelPage);
-    }
-    Opened::Refused(Error::InvalidPageKind)
 }
 
 // Whether the page's local opcodes lie in it.
@@ -271,17 +262,12 @@ pub fn has_local_opcodes(page: &[u8], pg: Page) -> bool
 }
 
 // The page opened whole, as iteration does.
-pub fn open_page(s: &[u8], offset: u32, first: u32) -> Opened
-    ensures { page_told result ≡ open_of s.now offset first }
+#[tactic(auto, unfolding(crate::specs::Raw::open_of))]
+pub fn open_page(s: &[u8], offset: u32, first: u32) -> Result<Page, Error>
+    ensures { told result ≡ open_of s.now offset first }
 {
-    let read = read_page(s, offset, first);
-    let Opened::Page(pg) = read else {
-        return read;
-    };
+    let page = read_page(s, offset, first)?;
     let from = offset as usize;
-    if has_local_opcodes(&s[from..], pg) {
-        Opened::Page(pg)
-    } else {
-        Opened::Refused(Error::LocalOpcodes)
-    }
+    check(has_local_opcodes(&s[from..], page), Error::LocalOpcodes)?;
+    Ok(page)
 }

@@ -4,16 +4,19 @@
 use Prim.Native.Nat.{ℕ, zero, suc, ◌+◌, ◌-◌, ◌*◌, ◌^◌, ◌≤◌, ◌<◌}
 use mathlib.Core.Path.{◌≡◌, refl, ap, sym, ◌∙◌}
 use mathlib.Core.Bool.{Bool, true, false, cond}
-use mathlib.Core.List.{List, []}
+use mathlib.Core.List.{List, [], ◌∷◌}
 use native.Mathlib.Nat.{le_refl, add-sub_cancel_left, zero-add, add-zero, suc-add, add-suc, one-mul, mul_assoc, pow-suc, mul_comm}
 use native.Mathlib.Omega.{arith}
 use native.Mathlib.Decide.{dec_le}
 use borrow.Author.Tests.{le-leb, lt-leb, leb-true, leb-false}
 use native.Mathlib.Decide.{dec_lt}
+use native.Mathlib.Numerals.{unary_clauses}
+use Rattle.std.specs.Int.{w16, w32, w64, from_le_bytes}
 use lib.Dec.{leb}
 use lib.ListN.{length, get_or, take, drop, length-drop, length-take, drop_of_length-le, get_or-eq_default}
 use lib.Seq.{get_or-drop, get_or-take, take_all, take-nil, length-take-le, drop-drop}
-use Rattle.reader.specs.Reader.{value, outside, number_at, granted_of, read_of, or_zero, word_at, part_of, Slice, slice, further, part_in, Bytes}
+use Rattle.std.specs.Prelude.{Some, None}
+use Rattle.reader.specs.Reader.{number_at, granted_of, read_of, or_zero, word_at, part_of, Slice, slice, further, part_in, Bytes}
 
 regroup : (a x p y : ℕ) → a + 256 * (x + p * y) ≡ a + 256 * x + p * 256 * y
 regroup a x p y = omega (arith, ap (λ (k : ℕ). k * y) (mul_comm p 256) ∙ mul_assoc 256 p y)
@@ -30,9 +33,19 @@ split (suc m) n s o =
     simp (suc-add, split m n s (suc o), add-suc, pow-suc)
     (regroup (get_or s o 0) (number_at m s (suc o)) (256 ^ m) (number_at n s (suc (o + m))))
 
-pub one_byte : (s : List ℕ) (o : ℕ) → number_at 1 s o ≡ get_or s o 0
+-- the bytes one by one make the number
+pub two_bytes : (s : List ℕ) (o : ℕ) → from_le_bytes w16 (get_or s o 0 ∷ get_or s (o + 1) 0 ∷ []) ≡ number_at 2 s o
 unfolding number_at
-one_byte s o = omega arith
+two_bytes s o = simp unary_clauses (omega arith)
+
+pub four_bytes : (s : List ℕ) (o : ℕ) → from_le_bytes w32 (get_or s o 0 ∷ get_or s (o + 1) 0 ∷ get_or s (o + 2) 0 ∷ get_or s (o + 3) 0 ∷ []) ≡ number_at 4 s o
+unfolding number_at
+four_bytes s o = simp unary_clauses (omega arith)
+
+pub eight_bytes : (s : List ℕ) (o : ℕ)
+    → from_le_bytes w64 (get_or s o 0 ∷ get_or s (o + 1) 0 ∷ get_or s (o + 2) 0 ∷ get_or s (o + 3) 0 ∷ get_or s (o + 4) 0 ∷ get_or s (o + 5) 0 ∷ get_or s (o + 6) 0 ∷ get_or s (o + 7) 0 ∷ []) ≡ number_at 8 s o
+unfolding number_at
+eight_bytes s o = simp unary_clauses (omega arith)
 
 -- a number of n bytes is below 256 to the n
 pub bounded : (s : List ℕ) → Bytes s → (n o : ℕ) → number_at n s o < 256 ^ n
@@ -51,11 +64,11 @@ module _ (n : ℕ) (s : List ℕ) (o : ℕ) where
   fits_not e = leb-false (o + n) (length s) e
 
   -- a read is granted exactly if its bytes lie in the list
-  pub granted : o + n ≤ length s → read_of n s o ≡ value (number_at n s o)
+  pub granted : o + n ≤ length s → read_of n s o ≡ Some (number_at n s o)
   unfolding read_of granted_of
   granted h = simp (le-leb _ _ h)
 
-  pub refused : length s < o + n → read_of n s o ≡ outside
+  pub refused : length s < o + n → read_of n s o ≡ None
   unfolding read_of granted_of
   refused h = simp (lt-leb _ _ h)
 
@@ -65,23 +78,23 @@ module _ (n : ℕ) (s : List ℕ) (o : ℕ) where
   unfolding granted_of
   grants h = le-leb _ _ h
 
-  pub was-word : (x : ℕ) → read_of n s o ≡ value x → word_at n s o ≡ x
+  pub was-word : (x : ℕ) → read_of n s o ≡ Some x → word_at n s o ≡ x
   unfolding word_at
   was-word x e = ap or_zero e
 
-  pub was_granted : (x : ℕ) → read_of n s o ≡ value x → granted_of n s o ≡ true
+  pub was_granted : (x : ℕ) → read_of n s o ≡ Some x → granted_of n s o ≡ true
   unfolding read_of
   was_granted x e = by-test (granted_of n s o) refl e
     where
-      by-test : (b : Bool) → granted_of n s o ≡ b → cond b (value (number_at n s o)) outside ≡ value x → granted_of n s o ≡ true
+      by-test : (b : Bool) → granted_of n s o ≡ b → cond b (Some (number_at n s o)) None ≡ Some x → granted_of n s o ≡ true
       by-test true q r = q
       by-test false q r = cc
 
-  pub was-refused : read_of n s o ≡ outside → granted_of n s o ≡ false
+  pub was-refused : read_of n s o ≡ None → granted_of n s o ≡ false
   unfolding read_of
   was-refused e = by-test (granted_of n s o) refl e
     where
-      by-test : (b : Bool) → granted_of n s o ≡ b → cond b (value (number_at n s o)) outside ≡ outside → granted_of n s o ≡ false
+      by-test : (b : Bool) → granted_of n s o ≡ b → cond b (Some (number_at n s o)) None ≡ None → granted_of n s o ≡ false
       by-test true q r = cc
       by-test false q r = q
 
@@ -95,7 +108,7 @@ pub read-part : (n p : ℕ) (s : List ℕ) (o : ℕ) → p ≤ length s → read
 read-part n p s o h = by-room (dec_le (p + o + n) (length s))
   where
     by-room : Dec (p + o + n ≤ length s) → read_of n (drop p s) o ≡ read_of n s (p + o)
-    by-room (yes r) = granted n (drop p s) o (simp length-drop (omega arith)) ∙ ap value (part n p s o) ∙ sym (granted n s (p + o) r)
+    by-room (yes r) = granted n (drop p s) o (simp length-drop (omega arith)) ∙ ap Some (part n p s o) ∙ sym (granted n s (p + o) r)
     by-room (no r) = refused n (drop p s) o (simp length-drop (omega arith)) ∙ sym (refused n s (p + o) (omega arith))
 
 -- `&s[p..]`, as a callee's contract has it

@@ -1,10 +1,7 @@
 -- docs/FORMAT.md, 1.1 and 1.2: reading a little-endian number, over its width n in bytes.
 -- Assumes nothing.
-use Rattle.std.specs.Prelude.{ℕ, zero, suc, ◌+◌, ◌*◌, ◌<◌, List, Bool, cond, length, get_or, take, drop, leb}
+use Rattle.std.specs.Prelude.{ℕ, zero, suc, ◌+◌, ◌*◌, ◌<◌, List, Bool, cond, Option, Some, None, length, get_or, take, drop, leb}
 use Rattle.std.specs.Borrow.{Bor}
-use Rattle.reader.specs.declared.Read16.{Read16}
-use Rattle.reader.specs.declared.Read32.{Read32}
-use Rattle.reader.specs.declared.Read64.{Read64}
 
 -- 1.1: the number whose n bytes start at offset o, least significant first
 unfoldable pub number_at : ℕ → List ℕ → ℕ → ℕ
@@ -15,30 +12,18 @@ number_at (suc n) s o = get_or s o 0 + 256 * number_at n s (suc o)
 unfoldable pub granted_of : ℕ → List ℕ → ℕ → Bool
 granted_of n s o = leb (o + n) (length s)
 
--- what a read answers, at every width
-pub data Told : Type 0 where
-  value : ℕ → Told
-  outside : Told
+unfoldable pub read_of : ℕ → List ℕ → ℕ → Option ℕ
+read_of n s o = cond (granted_of n s o) (Some (number_at n s o)) None
 
-unfoldable pub read_of : ℕ → List ℕ → ℕ → Told
-read_of n s o = cond (granted_of n s o) (value (number_at n s o)) outside
+-- what a read answers, by the number that its type says
+abbrev pub told : {A : Type 0} → (A → ℕ) → Option A → Option ℕ
+told f (Some x) = Some (f x)
+told f None = None
 
-abbrev pub told16 : Read16 → Told
-told16 (Read16.Value x) = value x
-told16 Read16.Outside = outside
-
-abbrev pub told32 : Read32 → Told
-told32 (Read32.Value x) = value x
-told32 Read32.Outside = outside
-
-abbrev pub told64 : Read64 → Told
-told64 (Read64.Value x) = value x
-told64 Read64.Outside = outside
-
--- the number of n bytes at o, or 0 where they are not granted
-abbrev pub or_zero : Told → ℕ
-or_zero (value x) = x
-or_zero outside = 0
+-- the number there, or 0 where the read is not granted
+abbrev pub or_zero : Option ℕ → ℕ
+or_zero (Some x) = x
+or_zero None = 0
 
 unfoldable pub word_at : ℕ → List ℕ → ℕ → ℕ
 word_at n s o = or_zero (read_of n s o)

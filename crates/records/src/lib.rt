@@ -2,85 +2,100 @@
 // of a record is 0.
 #![tactic(auto)]
 
-ghost use Rattle.std.specs.Prelude.{◌≡◌, ◌&&◌, length, if◌then◌else◌};
+ghost use Rattle.std.specs.Prelude.{ℕ, ◌≡◌, ◌<◌, ◌*◌, ◌==◌, length, map, refl};
+ghost use Rattle.std.proofs.Common.{rules};
 ghost use Rattle.reader.specs.Reader.{word_at};
 ghost use Rattle.records.specs.Records.{numbers_of, same_of, counted_of};
 
-use reader::Read64;
-use std::num::wrapping_add_u64;
+use reader::Number;
 
+mod records;
 mod text;
 
-pub use text::{put_16, put_32, put_64, show, show_count};
+pub use records::Records;
+pub use text::{put, show, show_count};
 
-#[derive(Clone, Copy)]
+// A number of which many stand in a record, one after the other.
+pub trait Recorded: Number + PartialEq {
+    // How many bytes each takes.
+    const BYTES: usize;
+
+    ghost BYTES: { ℕ };
+
+    ghost has_bytes: { (BYTES ≡ Self.bytes) × (0 < Self.bytes) };
+
+    // Two are equal where they are one number.
+    ghost equal: { (x : Self) (y : Self) → Self.eq x y ≡ (Self.value x == Self.value y) };
+}
+
+impl Recorded for u32 {
+    const BYTES: usize = 4;
+
+    ghost BYTES = { 4 };
+
+    ghost has_bytes = { (refl, Prim.search rules) };
+
+    ghost equal = { λ x y. refl };
+}
+
+impl Recorded for u64 {
+    const BYTES: usize = 8;
+
+    ghost BYTES = { 8 };
+
+    ghost has_bytes = { (refl, Prim.search rules) };
+
+    ghost equal = { λ x y. refl };
+}
+
+// The kth number of those that stand from the front on.
+pub fn nth<N: Recorded>(numbers: &[u8], k: usize) -> N
+    ensures { N.value result ≡ word_at N.bytes numbers.now (N.bytes * k) }
+{
+    reader::read_or_0(numbers, N::BYTES.saturating_mul(k))
+}
+
+// As many numbers as there is room for.
+#[tactic(auto, using(crate::proofs::Turns::one_read), unfolding(crate::specs::Records::numbers_of))]
+pub fn load(numbers: &[u8], into: &mut [u64])
+    ensures { into.new ≡ numbers_of (length into.old) numbers.now }
+{
+    for (k, x) in into.iter_mut().enumerate() {
+        *x = nth(numbers, k);
+    }
+}
+
+// The first N numbers.
+pub fn array<const N: usize>(numbers: &[u8]) -> [u64; N]
+    ensures { result ≡ numbers_of N numbers.now }
+{
+    let mut first = [0; N];
+    load(numbers, &mut first);
+    first
+}
+
+// Whether the numbers of an answer are the recorded ones.
+pub fn is_recorded<N: Recorded>(ours: &[N], numbers: &[u8]) -> bool
+    ensures { result ≡ same_of N.bytes (map N.value ours.now) numbers.now (length ours.now) }
+{
+    ours.iter().enumerate().all(|(k, x)| *x == nth(numbers, k))
+}
+
+// How many answers were compared, and how many of them were not the recorded ones.
+#[derive(Clone, Copy, Default)]
 pub struct Tally {
     pub compared: u64,
     pub differed: u64,
 }
 
-pub fn u64_or_0(numbers: &[u8], at: usize) -> u64
-    ensures { result ≡ word_at 8 numbers.now at }
-{
-    let Read64::Value(x) = reader::read_u64(numbers, at) else {
-        return 0;
-    };
-    x
-}
-
-// As many numbers as there is room for.
-pub fn load(numbers: &[u8], into: &mut [u64])
-    ensures { into.new ≡ numbers_of (length into.old) numbers.now }
-{
-    let mut k = 0;
-    while k < into.len() {
-        into[k] = u64_or_0(numbers, 8 * k);
-        k += 1;
+impl Tally {
+    // One answer more, which is the recorded one or differs.
+    pub fn count(self, same: bool) -> Tally
+        ensures { result ≡ counted_of self same }
+    {
+        Tally {
+            compared: self.compared.wrapping_add(1),
+            differed: self.differed.wrapping_add(u64::from(!same)),
+        }
     }
-}
-
-// Whether the numbers of an answer are the recorded ones, which have 32 or 64 bits.
-pub fn is_recorded_32(ours: &[u32], numbers: &[u8]) -> bool
-    ensures { result ≡ same_of 4 ours.now numbers.now (length ours.now) }
-{
-    let mut same = true;
-    let mut k = 0;
-    while k < ours.len() {
-        same = both(same, ours[k] == reader::u32_or_0(numbers, 4 * k));
-        k += 1;
-    }
-    same
-}
-
-pub fn is_recorded_64(ours: &[u64], numbers: &[u8]) -> bool
-    ensures { result ≡ same_of 8 ours.now numbers.now (length ours.now) }
-{
-    let mut same = true;
-    let mut k = 0;
-    while k < ours.len() {
-        same = both(same, ours[k] == u64_or_0(numbers, 8 * k));
-        k += 1;
-    }
-    same
-}
-
-fn both(a: bool, b: bool) -> bool
-    ensures { result ≡ a && b }
-{
-    if a { b } else { false }
-}
-
-// One answer more, which is the recorded one or differs.
-pub fn count(t: Tally, same: bool) -> Tally
-    ensures { result ≡ counted_of t same }
-{
-    let compared = wrapping_add_u64(t.compared, 1);
-    let differed = wrapping_add_u64(t.differed, one_if_not(same));
-    Tally { compared, differed }
-}
-
-fn one_if_not(same: bool) -> u64
-    ensures { result ≡ (if same then 0 else 1) }
-{
-    if same { 0 } else { 1 }
 }

@@ -3,6 +3,7 @@
 ghost use Rattle.std.specs.Prelude.{◌≡◌, length, IfOk};
 
 use crate::Tally;
+use std::fmt::Radix;
 use std::io;
 
 // Answers how many records it told of.
@@ -10,9 +11,7 @@ pub fn show(rt: &impl Print, name: &[u8], t: Tally) -> io::Result<u64>
     ensures { IfOk result (λ told. told ≡ t.compared) }
 {
     rt.write_all(name)?;
-    show_number(rt, ": ", t.compared)?;
-    show_number(rt, " compared, ", t.differed)?;
-    println!(rt; " differed")?;
+    println!(rt; ": {} compared, {} differed", t.compared, t.differed)?;
     Ok(t.compared)
 }
 
@@ -21,49 +20,16 @@ pub fn show_count(rt: &impl Print, name: &[u8], t: Tally) -> io::Result<u64>
     ensures { IfOk result (λ told. told ≡ t.compared) }
 {
     rt.write_all(name)?;
-    show_number(rt, ": ", t.compared)?;
-    println!(rt)?;
+    println!(rt; ": {}", t.compared)?;
     Ok(t.compared)
 }
 
-fn show_number(rt: &impl Print, before: &str, n: u64) -> io::Result<()> {
-    print!(rt; "{before}{n}")
-}
-
-// Each answers how many numbers there were.
-pub fn put_16(rt: &impl Print, numbers: &[u16]) -> io::Result<usize>
+// Answers how many numbers there were.
+pub fn put<N: Radix + Copy>(rt: &impl Print, numbers: &[N]) -> io::Result<usize>
     ensures { IfOk result (λ count. count ≡ length numbers.now) }
 {
-    let mut k = 0;
-    while k < numbers.len() {
-        put_number(rt, u64::from(numbers[k]))?;
-        k += 1;
+    for n in numbers {
+        print!(rt; " {n:x}")?;
     }
-    Ok(k)
-}
-
-pub fn put_32(rt: &impl Print, numbers: &[u32]) -> io::Result<usize>
-    ensures { IfOk result (λ count. count ≡ length numbers.now) }
-{
-    let mut k = 0;
-    while k < numbers.len() {
-        put_number(rt, u64::from(numbers[k]))?;
-        k += 1;
-    }
-    Ok(k)
-}
-
-pub fn put_64(rt: &impl Print, numbers: &[u64]) -> io::Result<usize>
-    ensures { IfOk result (λ count. count ≡ length numbers.now) }
-{
-    let mut k = 0;
-    while k < numbers.len() {
-        put_number(rt, numbers[k])?;
-        k += 1;
-    }
-    Ok(k)
-}
-
-fn put_number(rt: &impl Print, n: u64) -> io::Result<()> {
-    print!(rt; " {n:x}")
+    Ok(numbers.len())
 }

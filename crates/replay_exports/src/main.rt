@@ -12,7 +12,11 @@
 //   compare/run record-exports crates/replay_exports
 #![tactic(auto)]
 
-use reader::{part, u32_or_0};
+ghost use Rattle.std.specs.Prelude.{◌<◌, ◌^◌};
+
+use reader::part;
+use records::{Records, nth};
+use std::fmt::Radix;
 use std::io;
 
 mod frames;
@@ -27,23 +31,27 @@ fn main(rt: HostRuntime) -> io::Result<()> {
 }
 
 fn replay(rt: &impl Print, s: &[u8]) -> io::Result<()> {
-    let mut at = u32_or_0(s, 0) as usize;
-    while at < s.len() {
-        let n = u32_or_0(s, at + 12) as usize;
-        answer(rt, s, part(s, at, 36), part(s, at + 36, n))?;
-        at += 36 + n;
+    let first: u32 = nth(s, 0);
+    let records = part(s, first as usize, s.len());
+    for record in Records::new(records, |record| 36 + size(record, 3)) {
+        answer(rt, s, record)?;
     }
     Ok(())
 }
 
-fn answer(rt: &impl Print, s: &[u8], head: &[u8], asked: &[u8]) -> io::Result<()> {
-    rt.write_all(part(head, 16, 20))?;
-    call(rt, u32_or_0(head, 0), section(s, head), asked)?;
+fn answer(rt: &impl Print, s: &[u8], record: &[u8]) -> io::Result<()> {
+    rt.write_all(part(record, 16, 20))?;
+    let section = part(s, size(record, 1), size(record, 2));
+    let asked = part(record, 36, size(record, 3));
+    call(rt, nth(record, 0), section, asked)?;
     println!(rt)
 }
 
-fn section<'a>(s: &'a [u8], head: &[u8]) -> &'a [u8] {
-    part(s, u32_or_0(head, 4) as usize, u32_or_0(head, 8) as usize)
+// A place or a length of the record's head.
+fn size(head: &[u8], k: usize) -> usize
+    ensures { result < 2 ^ 32 }
+{
+    nth::<u32>(head, k) as usize
 }
 
 fn call(rt: &impl Print, tag: u32, section: &[u8], asked: &[u8]) -> io::Result<()> {
@@ -53,4 +61,9 @@ fn call(rt: &impl Print, tag: u32, section: &[u8], asked: &[u8]) -> io::Result<(
         9..=12 => frames::answer(rt, tag, section, asked),
         _ => sections::answer(rt, tag, section, asked),
     }
+}
+
+fn put<N: Radix + Copy>(rt: &impl Print, numbers: &[N]) -> io::Result<()> {
+    records::put(rt, numbers)?;
+    Ok(())
 }

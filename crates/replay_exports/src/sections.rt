@@ -3,14 +3,15 @@
 // write has 60 numbers, each 7 before the call, and the first ones of it are lent.
 ghost use Rattle.std.specs.Prelude.{◌≡◌, ◌≤◌, length, take};
 
+use crate::put;
 use brasspurse::sections::{
     FillAnswer, LookupAnswer, NextAnswer, RangeAnswer, brasspurse_address_range_in,
     brasspurse_fill, brasspurse_fill_in, brasspurse_lookup_batch, brasspurse_lookup_in,
     brasspurse_next_in,
 };
 use raw::Lists;
-use reader::u32_or_0;
-use records::{put_16, put_32, put_64};
+use reader::part;
+use records::nth;
 use std::io;
 
 pub fn answer(rt: &impl Print, tag: u32, section: &[u8], asked: &[u8]) -> io::Result<()> {
@@ -24,98 +25,61 @@ pub fn answer(rt: &impl Print, tag: u32, section: &[u8], asked: &[u8]) -> io::Re
 
 fn lists(asked: &[u8]) -> Lists {
     Lists {
-        global_opcodes_offset: u32_or_0(asked, 0),
-        global_opcodes_len: u32_or_0(asked, 4),
-        pages_offset: u32_or_0(asked, 8),
-        pages_len: u32_or_0(asked, 12),
+        global_opcodes_offset: nth(asked, 0),
+        global_opcodes_len: nth(asked, 1),
+        pages_offset: nth(asked, 2),
+        pages_len: nth(asked, 3),
     }
 }
 
 fn put_range(rt: &impl Print, range: RangeAnswer) -> io::Result<()> {
-    put_32(rt, &[range.refusal, range.start, range.end])?;
-    Ok(())
+    put(rt, &[range.refusal, range.start, range.end])
 }
 
 fn lookup_in(rt: &impl Print, section: &[u8], asked: &[u8]) -> io::Result<()> {
     put_lookup(
         rt,
-        brasspurse_lookup_in(section, lists(asked), u32_or_0(asked, 16)),
+        brasspurse_lookup_in(section, lists(asked), nth(asked, 4)),
     )
 }
 
 fn put_lookup(rt: &impl Print, found: LookupAnswer) -> io::Result<()> {
-    put_32(
+    put(rt, &[found.start, found.end, found.opcode])?;
+    put(rt, &[found.page, found.index])?;
+    put(
         rt,
-        &[
-            found.start,
-            found.end,
-            found.opcode,
-            found.page,
-            found.index,
-        ],
-    )?;
-    put_16(
-        rt,
-        &[
-            found.origin as u16,
-            found.probes as u16,
-            found.outcome as u16,
-            found.refusal as u16,
-        ],
-    )?;
-    Ok(())
+        &[found.origin, found.probes, found.outcome, found.refusal],
+    )
 }
 
 fn next_in(rt: &impl Print, section: &[u8], asked: &[u8]) -> io::Result<()> {
     put_next(
         rt,
-        brasspurse_next_in(
-            section,
-            lists(asked),
-            u32_or_0(asked, 16),
-            u32_or_0(asked, 20),
-        ),
+        brasspurse_next_in(section, lists(asked), nth(asked, 4), nth(asked, 5)),
     )
 }
 
 fn put_next(rt: &impl Print, next: NextAnswer) -> io::Result<()> {
-    put_32(
-        rt,
-        &[next.start, next.end, next.opcode, next.page, next.index],
-    )?;
-    put_32(rt, &[next.function_page, next.function_index])?;
-    put_16(
-        rt,
-        &[next.origin as u16, next.outcome as u16, next.refusal as u16],
-    )?;
-    Ok(())
+    put(rt, &[next.start, next.end, next.opcode])?;
+    put(rt, &[next.page, next.index])?;
+    put(rt, &[next.function_page, next.function_index])?;
+    put(rt, &[next.origin, next.outcome, next.refusal])
 }
 
 fn lent(rt: &impl Print, tag: u32, section: &[u8], asked: &[u8]) -> io::Result<()> {
     let mut list = [7u32; 60];
-    lend(rt, tag, section, asked, &mut list)?;
-    put_32(rt, &list)?;
-    Ok(())
+    let n = room(asked, 0, &list);
+    write(rt, tag, section, asked, &mut list[..n])?;
+    put(rt, &list)
 }
 
-fn lend(
-    rt: &impl Print,
-    tag: u32,
-    section: &[u8],
-    asked: &[u8],
-    list: &mut [u32],
-) -> io::Result<()> {
-    let n = room(asked, 0, list);
-    write(rt, tag, section, asked, &mut list[..n])
-}
-
-// How many numbers of a list the record asks for, at a place of the record; at most all of them.
-fn room(asked: &[u8], at: usize, list: &[u32]) -> usize
+// How many numbers of a list the record asks for, in its kth number; at most all of them.
+fn room(asked: &[u8], k: usize, list: &[u32]) -> usize
     ensures inside { result ≤ length list.now }
     ensures front { result ≡ length (take result list.now) }
 {
-    let n = u32_or_0(asked, at) as usize;
-    if n < list.len() { n } else { list.len() }
+    let n: u32 = nth(asked, k);
+    list.len().min(n as usize)
 }
 
 fn write(
@@ -135,50 +99,38 @@ fn write(
 fn fill(rt: &impl Print, section: &[u8], asked: &[u8], list: &mut [u32]) -> io::Result<()> {
     put_fill(
         rt,
-        brasspurse_fill(section, u32_or_0(asked, 4), u32_or_0(asked, 8), list),
+        brasspurse_fill(section, nth(asked, 1), nth(asked, 2), list),
     )
 }
 
 fn fill_in(rt: &impl Print, section: &[u8], asked: &[u8], list: &mut [u32]) -> io::Result<()> {
+    let lists = lists(part(asked, 12, 16));
     put_fill(
         rt,
-        brasspurse_fill_in(
-            section,
-            lists(reader::part(asked, 12, 16)),
-            u32_or_0(asked, 4),
-            u32_or_0(asked, 8),
-            list,
-        ),
+        brasspurse_fill_in(section, lists, nth(asked, 1), nth(asked, 2), list),
     )
 }
 
 fn put_fill(rt: &impl Print, filled: FillAnswer) -> io::Result<()> {
-    put_64(rt, &[filled.functions as u64])?;
-    put_32(rt, &[filled.page, filled.index])?;
-    put_16(rt, &[filled.outcome, filled.refusal])?;
-    Ok(())
+    put(rt, &[filled.functions])?;
+    put(rt, &[filled.page, filled.index])?;
+    put(rt, &[filled.outcome, filled.refusal])
 }
 
 fn batch(rt: &impl Print, section: &[u8], asked: &[u8], list: &mut [u32]) -> io::Result<()> {
     let addresses = nine(asked);
-    let n = room(asked, 4, &addresses);
-    put_64(
+    let n = room(asked, 1, &addresses);
+    put(
         rt,
-        &[brasspurse_lookup_batch(section, &addresses[..n], list) as u64],
-    )?;
-    Ok(())
+        &[brasspurse_lookup_batch(section, &addresses[..n], list)],
+    )
 }
 
+// The nine numbers after the first two.
 fn nine(asked: &[u8]) -> [u32; 9] {
-    [
-        u32_or_0(asked, 8),
-        u32_or_0(asked, 12),
-        u32_or_0(asked, 16),
-        u32_or_0(asked, 20),
-        u32_or_0(asked, 24),
-        u32_or_0(asked, 28),
-        u32_or_0(asked, 32),
-        u32_or_0(asked, 36),
-        u32_or_0(asked, 40),
-    ]
+    let mut nine = [0u32; 9];
+    for (k, number) in nine.iter_mut().enumerate() {
+        *number = nth(asked, k + 2);
+    }
+    nine
 }

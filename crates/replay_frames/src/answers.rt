@@ -1,81 +1,80 @@
 // The step that a record asks for, and whether the answer recorded is ours.
-use brasspurse::frames::{
-    StepArm64Answer, StepX86_64Answer, brasspurse_step_arm64, brasspurse_step_x86_64,
-};
-use reader::{part, u32_or_0};
-use records::{is_recorded_64, load, u64_or_0};
+ghost use Rattle.std.specs.Prelude.{◌≤◌};
+
+use brasspurse::frames::{brasspurse_step_arm64, brasspurse_step_x86_64};
+use reader::{part, read_or_0};
+use records::{array, is_recorded, nth};
 use step::arm64::RegistersArm64;
 use step::x86_64::RegistersX86_64;
 
-pub fn is_ours(machine: u64, record: &[u8]) -> bool {
+#[derive(Clone, Copy, Debug, PartialEq, Eq)]
+pub enum Machine {
+    X86_64,
+    Arm64,
+}
+
+impl Machine {
+    // A control has its machine's tag and 100 more.
+    pub fn tag(self, control: bool) -> u64 {
+        let tag = match self {
+            Machine::X86_64 => 1,
+            Machine::Arm64 => 2,
+        };
+        if control { 100 + tag } else { tag }
+    }
+
+    // Where the window stands in a record.
+    pub fn window(self) -> usize
+        ensures { result ≤ 400 }
+    {
+        match self {
+            Machine::X86_64 => 176,
+            Machine::Arm64 => 400,
+        }
+    }
+}
+
+pub fn is_ours(machine: Machine, record: &[u8]) -> bool {
+    let word = read_or_0(record, 8);
+    let base = nth(record, 2);
+    let n: u32 = read_or_0(record, 24);
+    let window = part(record, machine.window(), n as usize);
     match machine {
-        1 => is_x86_64(step_x86_64(record), part(record, 96, 80)),
-        2 => is_arm64(step_arm64(record), part(record, 208, 192)),
-        _ => false,
+        Machine::X86_64 => is_x86_64(word, base, window, record),
+        Machine::Arm64 => is_arm64(word, base, window, record),
     }
 }
 
-fn step_x86_64(record: &[u8]) -> StepX86_64Answer {
-    let mut saved = [0u64; 6];
-    load(part(record, 48, 48), &mut saved);
+fn is_x86_64(word: u32, base: u64, window: &[u8], record: &[u8]) -> bool {
     let given = RegistersX86_64 {
-        rip: u64_or_0(record, 32),
-        rsp: u64_or_0(record, 40),
-        saved,
+        rip: nth(record, 4),
+        rsp: nth(record, 5),
+        saved: array(part(record, 48, 48)),
     };
-    brasspurse_step_x86_64(
-        u32_or_0(record, 8),
-        given,
-        u64_or_0(record, 16),
-        window(record, 176),
-    )
+    let ours = brasspurse_step_x86_64(word, given, base, window);
+    let after = ours.registers;
+    let first = [
+        u64::from(ours.refusal),
+        u64::from(ours.value),
+        after.rip,
+        after.rsp,
+    ];
+    is_recorded(&first, part(record, 96, 32)) && is_recorded(&after.saved, part(record, 128, 48))
 }
 
-fn step_arm64(record: &[u8]) -> StepArm64Answer {
-    let mut saved = [0u64; 20];
-    load(part(record, 48, 160), &mut saved);
+fn is_arm64(word: u32, base: u64, window: &[u8], record: &[u8]) -> bool {
     let given = RegistersArm64 {
-        pc: u64_or_0(record, 32),
-        sp: u64_or_0(record, 40),
-        saved,
+        pc: nth(record, 4),
+        sp: nth(record, 5),
+        saved: array(part(record, 48, 160)),
     };
-    brasspurse_step_arm64(
-        u32_or_0(record, 8),
-        given,
-        u64_or_0(record, 16),
-        window(record, 400),
-    )
-}
-
-fn window(record: &[u8], at: usize) -> &[u8] {
-    part(record, at, u32_or_0(record, 24) as usize)
-}
-
-fn is_x86_64(ours: StepX86_64Answer, recorded: &[u8]) -> bool {
+    let ours = brasspurse_step_arm64(word, given, base, window);
     let after = ours.registers;
-    let saved = after.saved;
-    is_answer(
-        [ours.refusal as u64, ours.value as u64, after.rip, after.rsp],
-        &saved,
-        recorded,
-    )
-}
-
-fn is_arm64(ours: StepArm64Answer, recorded: &[u8]) -> bool {
-    let after = ours.registers;
-    let saved = after.saved;
-    is_answer(
-        [ours.refusal as u64, ours.value as u64, after.pc, after.sp],
-        &saved,
-        recorded,
-    )
-}
-
-// Whether refusal, value, two registers and the saved ones are recorded.
-fn is_answer(first: [u64; 4], saved: &[u64], recorded: &[u8]) -> bool {
-    if is_recorded_64(&first, recorded) {
-        is_recorded_64(saved, part(recorded, 32, recorded.len()))
-    } else {
-        false
-    }
+    let first = [
+        u64::from(ours.refusal),
+        u64::from(ours.value),
+        after.pc,
+        after.sp,
+    ];
+    is_recorded(&first, part(record, 208, 32)) && is_recorded(&after.saved, part(record, 240, 160))
 }

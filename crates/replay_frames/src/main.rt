@@ -17,15 +17,15 @@
 //   compare/run record-frames crates/replay_frames/stdin
 #![tactic(auto)]
 
-use answers::is_ours;
-use reader::{part, u32_or_0};
-use records::{Tally, show, show_count, u64_or_0};
+ghost use Rattle.std.specs.Prelude.{◌≤◌};
+
+use answers::{Machine, is_ours};
+use reader::read_or_0;
+use records::{Records, Tally, nth, show, show_count};
 use std::io;
 use streams::read_full;
 
 mod answers;
-
-const OTHER: u64 = 103;
 
 fn main(rt: HostRuntime) -> io::Result<()> {
     let mut buffer = [0u8; 131072];
@@ -34,54 +34,54 @@ fn main(rt: HostRuntime) -> io::Result<()> {
 }
 
 fn report(rt: &impl Print, s: &[u8]) -> io::Result<()> {
-    show(rt, b"x86_64", replay(s, 1))?;
-    show(rt, b"arm64", replay(s, 2))?;
-    show(rt, b"x86_64, controls", replay(s, 101))?;
-    show(rt, b"arm64, controls", replay(s, 102))?;
-    show_count(rt, b"other", replay(s, OTHER))?;
+    show(rt, b"x86_64", replay(s, Machine::X86_64, false))?;
+    show(rt, b"arm64", replay(s, Machine::Arm64, false))?;
+    show(rt, b"x86_64, controls", replay(s, Machine::X86_64, true))?;
+    show(rt, b"arm64, controls", replay(s, Machine::Arm64, true))?;
+    show_count(rt, b"other", others(s))?;
     Ok(())
 }
 
-// The records of a kind.
-fn replay(s: &[u8], asked: u64) -> Tally {
-    let mut tally = Tally {
-        compared: 0,
-        differed: 0,
-    };
-    let mut at = 0;
-    while at < s.len() {
-        let record = part(s, at, s.len());
-        tally = compare(tally, asked, record);
-        at += 8 + 8 * numbers_after(record) as usize;
+// The machine's records, or their controls.
+fn replay(s: &[u8], machine: Machine, control: bool) -> Tally {
+    let asked = machine.tag(control);
+    let mut tally = Tally::default();
+    for record in Records::new(s, bytes) {
+        if tag(record) == asked {
+            tally = tally.count(is_ours(machine, record));
+        }
     }
     tally
 }
 
-// How many numbers the record has after its tag, the window's with them. Of one with another tag only the tag is passed.
-fn numbers_after(record: &[u8]) -> u32 {
-    let n = u32_or_0(record, 24);
-    let window = n / 8 + (n % 8 + 7) / 8;
-    let machine = kind(record) % 100;
-    match machine {
-        1 => 21 + window,
-        2 => 49 + window,
-        _ => 0,
+// The records whose tag is none of those that are known.
+fn others(s: &[u8]) -> Tally {
+    let mut tally = Tally::default();
+    for record in Records::new(s, bytes) {
+        if !matches!(tag(record), 0..=2 | 101..=102) {
+            tally = tally.count(true);
+        }
+    }
+    tally
+}
+
+fn tag(record: &[u8]) -> u64 {
+    nth(record, 0)
+}
+
+// Of a record that is no machine's only the tag is passed.
+fn bytes(record: &[u8]) -> usize {
+    match tag(record) {
+        1 | 101 => Machine::X86_64.window() + padded(record),
+        2 | 102 => Machine::Arm64.window() + padded(record),
+        _ => 8,
     }
 }
 
-// The record's tag, or OTHER where it is none of them.
-fn kind(record: &[u8]) -> u64 {
-    let tag = u64_or_0(record, 0);
-    match tag {
-        0..=2 | 101..=102 => tag,
-        _ => OTHER,
-    }
-}
-
-// A control has its machine's tag and 100 more.
-fn compare(tally: Tally, asked: u64, record: &[u8]) -> Tally {
-    if kind(record) != asked {
-        return tally;
-    }
-    records::count(tally, is_ours(asked % 100, record))
+// The window's length in whole numbers.
+fn padded(record: &[u8]) -> usize
+    ensures { result ≤ 0x1_0000_0000 }
+{
+    let n: u32 = read_or_0(record, 24);
+    8 * (n as usize).div_ceil(8)
 }

@@ -9,6 +9,8 @@
 //   compare/run record-listings crates/replay_listings
 #![tactic(auto)]
 
+use reader::{part, read_or_0};
+use records::Records;
 use std::io;
 
 fn main(rt: HostRuntime) -> io::Result<()> {
@@ -19,10 +21,11 @@ fn main(rt: HostRuntime) -> io::Result<()> {
 }
 
 fn replay(rt: &(impl Print + Eprint), s: &[u8]) {
-    let mut at: usize = 0;
-    while at < s.len() {
-        let n = reader::u32_or_0(s, at) as usize;
-        lister::list(rt, reader::part(s, at + 4, n));
-        at += 4 + n;
+    for input in Records::new(s, |input| 4 + length(input) as usize) {
+        lister::list(rt, part(input, 4, length(input) as usize));
     }
+}
+
+fn length(input: &[u8]) -> u32 {
+    read_or_0(input, 0)
 }

@@ -21,9 +21,9 @@
 
 ghost use Rattle.std.specs.Prelude.{◌≡◌, length};
 
-use answers::answer;
-use reader::{part, u32_or_0};
-use records::{Tally, show};
+use answers::{Question, answer};
+use reader::part;
+use records::{Tally, is_recorded, nth, show};
 use std::io;
 use streams::read_full;
 
@@ -43,34 +43,39 @@ fn main(rt: HostRuntime) -> io::Result<()> {
 }
 
 fn report(rt: &impl Print, s: &[u8]) -> io::Result<()> {
-    show(rt, b"permutations", replay(s, 1))?;
-    show(rt, b"x86_64 words", replay(s, 2))?;
-    show(rt, b"arm64 words", replay(s, 3))?;
-    show(rt, b"permutations, controls", replay(s, 101))?;
-    show(rt, b"x86_64 words, controls", replay(s, 102))?;
-    show(rt, b"arm64 words, controls", replay(s, 103))?;
+    show(rt, b"permutations", replay(s, Question::Permutation, false))?;
+    show(rt, b"x86_64 words", replay(s, Question::X86_64, false))?;
+    show(rt, b"arm64 words", replay(s, Question::Arm64, false))?;
+    show(
+        rt,
+        b"permutations, controls",
+        replay(s, Question::Permutation, true),
+    )?;
+    show(
+        rt,
+        b"x86_64 words, controls",
+        replay(s, Question::X86_64, true),
+    )?;
+    show(
+        rt,
+        b"arm64 words, controls",
+        replay(s, Question::Arm64, true),
+    )?;
     Ok(())
 }
 
-// The records that have the tag.
-fn replay(s: &[u8], tag: u32) -> Tally {
-    let mut tally = Tally {
-        compared: 0,
-        differed: 0,
-    };
-    let mut at = 0;
-    while at < s.len() {
-        tally = compare(tally, tag, part(s, at, 32));
-        at += 32;
-    }
-    tally
+// The records that ask the question, or the question's controls.
+fn replay(s: &[u8], question: Question, control: bool) -> Tally {
+    let tag = question.tag(control);
+    s.chunks(32)
+        .filter(|record| nth::<u32>(record, 0) == tag)
+        .fold(
+            Tally::default(),
+            |tally, record| tally.count(is_ours(question, record)),
+        )
 }
 
-// A control has its kind's tag and 100 more.
-fn compare(tally: Tally, tag: u32, record: &[u8]) -> Tally {
-    if u32_or_0(record, 0) != tag {
-        return tally;
-    }
-    let ours = answer(tag % 100, u32_or_0(record, 4), u32_or_0(record, 8));
-    records::count(tally, records::is_recorded_32(&ours, part(record, 12, 20)))
+fn is_ours(question: Question, record: &[u8]) -> bool {
+    let ours = answer(question, nth(record, 1), nth(record, 2));
+    is_recorded(&ours, part(record, 12, 20))
 }

@@ -20,22 +20,15 @@
 //   compare/run record-sections crates/replay_sections/stdin
 #![tactic(auto)]
 
-use answers::answer;
-use reader::{part, u32_or_0};
-use records::{Tally, show, show_count};
+ghost use Rattle.std.specs.Prelude.{◌<◌, ◌^◌};
+
+use answers::{Question, answer};
+use reader::part;
+use records::{Records, Tally, is_recorded, nth, show, show_count};
 use std::io;
 use streams::read_full;
 
 mod answers;
-
-const OTHER: u32 = 106;
-
-// Where the bytes of a section lie in the input.
-#[derive(Clone, Copy)]
-struct Place {
-    start: usize,
-    n: usize,
-}
 
 fn main(rt: HostRuntime) -> io::Result<()> {
     let mut buffer = [0u8; 65536];
@@ -44,81 +37,86 @@ fn main(rt: HostRuntime) -> io::Result<()> {
 }
 
 fn report(rt: &impl Print, s: &[u8]) -> io::Result<()> {
-    show(rt, b"lookups", replay(s, 1))?;
-    show(rt, b"nexts", replay(s, 2))?;
-    show(rt, b"parses", replay(s, 3))?;
-    show(rt, b"ranges", replay(s, 4))?;
-    show(rt, b"well formed", replay(s, 5))?;
-    show(rt, b"lookups, controls", replay(s, 101))?;
-    show(rt, b"nexts, controls", replay(s, 102))?;
-    show(rt, b"parses, controls", replay(s, 103))?;
-    show(rt, b"ranges, controls", replay(s, 104))?;
-    show(rt, b"well formed, controls", replay(s, 105))?;
-    show_count(rt, b"sections", replay(s, 0))?;
-    show_count(rt, b"other", replay(s, OTHER))?;
+    compared(rt, s)?;
+    controls(rt, s)?;
+    show_count(rt, b"sections", counted(s, |tag| tag == 0))?;
+    show_count(rt, b"other", counted(s, is_other))?;
     Ok(())
 }
 
-// The records of a kind.
-fn replay(s: &[u8], asked: u32) -> Tally {
-    let mut tally = Tally {
-        compared: 0,
-        differed: 0,
-    };
-    let mut place = Place { start: 0, n: 0 };
-    let mut at: usize = 0;
-    while at < s.len() {
-        let record = part(s, at, 52);
-        at += 52;
-        place = section_at(place, record, at);
-        tally = compare(tally, asked, section(s, place), record);
-        at += 4 * ((bytes_after(record) as usize + 3) / 4);
+fn compared(rt: &impl Print, s: &[u8]) -> io::Result<()> {
+    show(rt, b"lookups", replay(s, Question::Lookup, false))?;
+    show(rt, b"nexts", replay(s, Question::Next, false))?;
+    show(rt, b"parses", replay(s, Question::Parse, false))?;
+    show(rt, b"ranges", replay(s, Question::Range, false))?;
+    show(rt, b"well formed", replay(s, Question::WellFormed, false))?;
+    Ok(())
+}
+
+fn controls(rt: &impl Print, s: &[u8]) -> io::Result<()> {
+    show(rt, b"lookups, controls", replay(s, Question::Lookup, true))?;
+    show(rt, b"nexts, controls", replay(s, Question::Next, true))?;
+    show(rt, b"parses, controls", replay(s, Question::Parse, true))?;
+    show(rt, b"ranges, controls", replay(s, Question::Range, true))?;
+    show(
+        rt,
+        b"well formed, controls",
+        replay(s, Question::WellFormed, true),
+    )?;
+    Ok(())
+}
+
+// The records that ask the question, or the question's controls, each of the last section before it.
+fn replay(s: &[u8], question: Question, control: bool) -> Tally {
+    let asked = question.tag(control);
+    let mut tally = Tally::default();
+    let mut section = &s[..0];
+    for record in Records::new(s, bytes) {
+        if tag(record) == 0 {
+            section = part(record, 52, bytes_after(record));
+        } else if tag(record) == asked {
+            tally = tally.count(is_ours(question, section, record));
+        }
     }
     tally
 }
 
-fn section(s: &[u8], place: Place) -> &[u8] {
-    part(s, place.start, place.n)
+// The records whose tag is meant, with nothing compared.
+fn counted<F: Fn(u32) -> bool>(s: &[u8], meant: F) -> Tally
+    requires { F.IsAlwaysCallable meant }
+{
+    let mut tally = Tally::default();
+    for record in Records::new(s, bytes) {
+        if meant(tag(record)) {
+            tally = tally.count(true);
+        }
+    }
+    tally
 }
 
-// The section whose bytes come after the record, or, if none do, the one before.
-fn section_at(before: Place, record: &[u8], start: usize) -> Place {
-    if kind(record) != 0 {
-        return before;
-    }
-    Place {
-        start,
-        n: bytes_after(record) as usize,
-    }
+fn is_other(tag: u32) -> bool {
+    !matches!(tag, 0..=5 | 101..=105)
 }
 
-fn bytes_after(record: &[u8]) -> u32 {
-    if kind(record) == 0 {
-        u32_or_0(record, 4)
+fn tag(record: &[u8]) -> u32 {
+    nth(record, 0)
+}
+
+fn bytes(record: &[u8]) -> usize {
+    52 + 4 * bytes_after(record).div_ceil(4)
+}
+
+fn bytes_after(record: &[u8]) -> usize
+    ensures { result < 2 ^ 32 }
+{
+    if tag(record) == 0 {
+        nth::<u32>(record, 1) as usize
     } else {
         0
     }
 }
 
-// The record's tag, or OTHER where it is none of them.
-fn kind(record: &[u8]) -> u32 {
-    let tag = u32_or_0(record, 0);
-    match tag {
-        0..=5 | 101..=105 => tag,
-        _ => OTHER,
-    }
-}
-
-// A control has its kind's tag and 100 more.
-fn compare(tally: Tally, asked: u32, section: &[u8], record: &[u8]) -> Tally {
-    if kind(record) != asked {
-        return tally;
-    }
-    let ours = answer(
-        section,
-        asked % 100,
-        u32_or_0(record, 4),
-        u32_or_0(record, 8),
-    );
-    records::count(tally, records::is_recorded_32(&ours, part(record, 12, 40)))
+fn is_ours(question: Question, section: &[u8], record: &[u8]) -> bool {
+    let ours = answer(question, section, nth(record, 1), nth(record, 2));
+    is_recorded(&ours, part(record, 12, 40))
 }

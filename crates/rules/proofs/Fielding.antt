@@ -9,6 +9,10 @@ use borrow.Author.Tests.{lt-ltb, le-ltb, eq-eqb, ne_eqb}
 use lib.Dec.{ltb, eqb}
 use lib.ListN.{length, get_or, set, drop}
 use lib.Seq.{drop-cons, drop-length}
+use Rattle.opcodes.specs.Registers.{Told, number_of, value_of, fields_in, number_at, field_named}
+use Rattle.opcodes.specs.declared.x86_64.RegisterNameX86_64.{RegisterNameX86_64}
+use Rattle.opcodes.specs.declared.x86_64.RegisterNameX86_64.TheVariants.{Rbx, R12, R13, R14, R15, Rbp}
+use Rattle.opcodes.proofs.Fields.{number-told, at_field}
 use Rattle.frame.specs.Frame.{register, slot}
 use Rattle.rules.specs.Answers.{numbered, Ruling}
 use Rattle.rules.specs.RulesX86.{refusal}
@@ -57,3 +61,16 @@ module _ (offset : ℕ) (first fs ds : List ℕ) (k : ℕ) (t : Turn offset firs
 
 pub end : (offset : ℕ) (first fs ds : List ℕ) → Turn offset first fs ds (length fs) → based_from offset (length fs) ds [] ≡ based_from offset 0 first fs
 end offset first fs ds t = sym (t ∙ ap (based_from offset (length fs) ds) (drop-length fs))
+
+-- what field k names has the field's number
+pub field : (fields k : ℕ) (t : Told) → k < 5 → t ≡ field_named fields k → get_or (fields_in fields) k 0 ≡ value_of t
+field fields k t h e = sym (at_field fields k h) ∙ sym (number-told (number_at fields k)) ∙ ap value_of (sym e)
+
+-- the registers are numbered from 1
+pub numbered-from-1 : (r : RegisterNameX86_64) → 0 < number_of r
+numbered-from-1 Rbx = omega arith
+numbered-from-1 R12 = omega arith
+numbered-from-1 R13 = omega arith
+numbered-from-1 R14 = omega arith
+numbered-from-1 R15 = omega arith
+numbered-from-1 Rbp = omega arith

@@ -18,14 +18,14 @@ use Rattle.frame.proofs.Lowered.{Rising}
 use Rattle.rules.specs.Answers.{Number, numbered, Ruling, ruling}
 use Rattle.rules.specs.RulesArm64.{refusal, listed_from, by_word, rule_of}
 use Rattle.rules.specs.SoundArm64.{pairs, listed, Sound, frame_based, frameless, Refused, null, dwarf, unrecognised, frame_of}
-use Rattle.rules.proofs.SaysArm64.{rule-of}
+use Rattle.rules.proofs.SaysArm64.{rule_of_told}
 
 -- the pairs that parsing tells are those of the word's bits
 listed-is : (w : ℕ) → listed_from 0 (words.pairs w) ≡ listed w
 listed-is w = simp (append_assoc, append-nil)
 
 ruled : (w : ℕ) (t : words.Word) → parse_of w ≡ t → rule_of w ≡ by_word t
-ruled w t p = sym (rule-of w t (sym p))
+ruled w t p = sym (rule_of_told w t (sym p))
 
 -- The rule of a sound word is its frame.
 pub sound-rule : (w : ℕ) (s : Sound w) → rule_of w ≡ ruling 20 (frame_of w s)

@@ -30,11 +30,11 @@ use Rattle.rules.proofs.Pushing.{deep-eight}
 use Rattle.rules.proofs.ListsX86.{list_of, list-named, accepted-lists, lists-accepted, taken}
 use Rattle.rules.proofs.FieldsX86.{first, sound-passes, sound-tested, tested-sound, passes-fields}
 use Rattle.rules.proofs.SaysX86 as says
-use Rattle.rules.proofs.SaysX86.{Said, said, rule-of}
+use Rattle.rules.proofs.SaysX86.{Said, said, rule_of_told}
 
 -- the rule of a word that parses so
 ruled : (w : ℕ) (t : Told) → parse_of w ≡ t → rule_of w ≡ by_word (count_of w) t.word t.saved
-ruled w t p = sym (rule-of w t (sym p))
+ruled w t p = sym (rule_of_told w t (sym p))
 
 based-rule : (w : ℕ) → kind_of w ≡ 1 → rule_of w ≡ based (size_of w) (fields_of w)
 based-rule w k = ruled w (alone (words.frame_based (size_of w) (bits 0 15 w))) (of-kind 1 w k) ∙ ap (based (size_of w)) (fields_in_lem w)

@@ -1,20 +1,19 @@
 -- Two answers that conform to a contract are one answer, since what was told gives the answer back. (`number` and `value` give the answer
 -- itself.)
 -- Assumes nothing.
-use mathlib.Core.Path.{◌≡◌, refl, ap₂, sym, ◌∙◌}
+use mathlib.Core.Path.{◌≡◌, refl, ap, sym, ◌∙◌}
 use mathlib.Core.Bool.{cond}
 use mathlib.Mathlib.Logic.Function.Defs.{LeftInverse, LeftInverse-Injective}
 use lib.Dec.{eqb}
+use Prim.Native.Nat.{ℕ}
+use Rattle.std.specs.Prelude.{Option, Some, None, Result, Ok, Err}
 use Rattle.frame.specs.Frame.{Anchor, stack, register}
-use Rattle.rules.specs.Answers.{Number, outcome_of, Ruling, Saved, absent, below, slot_told}
+use Rattle.rules.specs.Answers.{Number, refusal_of, Ruling, Saved, absent, below, slot_told}
 use Rattle.rules.specs.RulesX86 as x86
 use Rattle.rules.specs.RulesArm64 as arm64
 use Rattle.rules.specs.declared.Refusal.{Refusal}
-use Rattle.rules.specs.declared.Outcome.{Outcome}
 use Rattle.rules.specs.declared.CfaRegister.{CfaRegister}
-use Rattle.rules.specs.declared.Slot.{Slot}
-use Rattle.rules.specs.declared.x86_64.RuleX86_64.{RuleX86_64}
-use Rattle.rules.specs.declared.arm64.«RuleArm64».{«RuleArm64»}
+use Rattle.rules.specs.declared.Rule.{Rule}
 
 abbrev pub back_refusal : Number → Refusal
 back_refusal n =
@@ -26,19 +25,19 @@ back_refusal n =
     (cond (eqb n.number 25) Refusal.FramelessIndirect
     (cond (eqb n.number 26) Refusal.AboveAddresses Refusal.OutsideWindow))))))
 
-abbrev pub back_outcome : Number → Outcome
-back_outcome n = cond (eqb n.number 0) Outcome.Answered (Outcome.Refused (back_refusal n))
+-- an answer, or the refusal that was told
+abbrev pub back : {A : Type 0} → A → Number → Result A Refusal
+back x n = cond (eqb n.number 0) (Ok x) (Err (back_refusal n))
 
-pub way_outcome : LeftInverse back_outcome outcome_of
-way_outcome Outcome.Answered = refl
-way_outcome (Outcome.Refused Refusal.Null) = refl
-way_outcome (Outcome.Refused (Refusal.Dwarf low24)) = refl
-way_outcome (Outcome.Refused (Refusal.UnrecognizedKind kind)) = refl
-way_outcome (Outcome.Refused Refusal.InvalidFrameless) = refl
-way_outcome (Outcome.Refused Refusal.NotSound) = refl
-way_outcome (Outcome.Refused Refusal.FramelessIndirect) = refl
-way_outcome (Outcome.Refused Refusal.AboveAddresses) = refl
-way_outcome (Outcome.Refused Refusal.OutsideWindow) = refl
+pub way_refusal : {A : Type 0} (x : A) (r : Refusal) → back x (refusal_of r) ≡ Err r
+way_refusal x Refusal.Null = refl
+way_refusal x (Refusal.Dwarf low24) = refl
+way_refusal x (Refusal.UnrecognizedKind kind) = refl
+way_refusal x Refusal.InvalidFrameless = refl
+way_refusal x Refusal.NotSound = refl
+way_refusal x Refusal.FramelessIndirect = refl
+way_refusal x Refusal.AboveAddresses = refl
+way_refusal x Refusal.OutsideWindow = refl
 
 abbrev back_register : Anchor → CfaRegister
 back_register stack = CfaRegister.StackPointer
@@ -53,36 +52,36 @@ way_arm64 : LeftInverse back_register arm64.anchor_told
 way_arm64 CfaRegister.StackPointer = refl
 way_arm64 CfaRegister.FramePointer = refl
 
--- an outcome and a register, told and given back, in whatever holds them
-given_back : {A : Type 0} (make : Outcome → CfaRegister → A) (told : CfaRegister → Anchor) → LeftInverse back_register told → (o : Outcome) (c : CfaRegister)
-    → make (back_outcome (outcome_of o)) (back_register (told c)) ≡ make o c
-given_back make told way o c = ap₂ make (way_outcome o) (way c)
+abbrev rule_back : {n : ℕ} → Ruling → Rule n
+rule_back u = record { cfa_register = back_register u.anchor; cfa_distance = u.distance; below = u.below }
 
-pub one-rule-x86-64 : (t : Ruling) (x y : RuleX86_64) → x86.rule_told x ≡ t → x86.rule_told y ≡ t → x ≡ y
-one-rule-x86-64 t x y p q = LeftInverse-Injective back x86.rule_told way x y (p ∙ sym q)
+pub one-rule-x86-64 : (t : Ruling) (x y : Result (Rule 6) Refusal) → x86.rule_told x ≡ t → x86.rule_told y ≡ t → x ≡ y
+one-rule-x86-64 t x y p q = LeftInverse-Injective given x86.rule_told way x y (p ∙ sym q)
   where
-    back : Ruling → RuleX86_64
-    back u = record { outcome = back_outcome u.refusal; cfa_register = back_register u.anchor; cfa_distance = u.distance; below = u.below }
+    given : Ruling → Result (Rule 6) Refusal
+    given u = back (rule_back u) u.refusal
 
-    way : LeftInverse back x86.rule_told
-    way u = given_back {A = RuleX86_64} (λ o c. record { outcome = o; cfa_register = c; cfa_distance = u.cfa_distance; below = u.below }) x86.anchor_told way_x86 u.outcome u.cfa_register
+    way : LeftInverse given x86.rule_told
+    way (Ok u) = ap (λ (c : CfaRegister). Ok (record { cfa_register = c; cfa_distance = u.cfa_distance; below = u.below })) (way_x86 u.cfa_register)
+    way (Err e) = way_refusal _ e
 
-pub one-rule-arm64 : (t : Ruling) (x y : «RuleArm64») → arm64.rule_told x ≡ t → arm64.rule_told y ≡ t → x ≡ y
-one-rule-arm64 t x y p q = LeftInverse-Injective back arm64.rule_told way x y (p ∙ sym q)
+pub one-rule-arm64 : (t : Ruling) (x y : Result (Rule 20) Refusal) → arm64.rule_told x ≡ t → arm64.rule_told y ≡ t → x ≡ y
+one-rule-arm64 t x y p q = LeftInverse-Injective given arm64.rule_told way x y (p ∙ sym q)
   where
-    back : Ruling → «RuleArm64»
-    back u = record { outcome = back_outcome u.refusal; cfa_register = back_register u.anchor; cfa_distance = u.distance; below = u.below }
+    given : Ruling → Result (Rule 20) Refusal
+    given u = back (rule_back u) u.refusal
 
-    way : LeftInverse back arm64.rule_told
-    way u = given_back {A = «RuleArm64»} (λ o c. record { outcome = o; cfa_register = c; cfa_distance = u.cfa_distance; below = u.below }) arm64.anchor_told way_arm64 u.outcome u.cfa_register
+    way : LeftInverse given arm64.rule_told
+    way (Ok u) = ap (λ (c : CfaRegister). Ok (record { cfa_register = c; cfa_distance = u.cfa_distance; below = u.below })) (way_arm64 u.cfa_register)
+    way (Err e) = way_refusal _ e
 
-abbrev back_slot : Saved → Slot
-back_slot absent = Slot.Absent
-back_slot (below d) = Slot.BelowCfa d
+abbrev back_slot : Saved → Option ℕ
+back_slot absent = None
+back_slot (below d) = Some d
 
 way_slot : LeftInverse back_slot slot_told
-way_slot Slot.Absent = refl
-way_slot (Slot.BelowCfa d) = refl
+way_slot None = refl
+way_slot (Some d) = refl
 
-pub one-slot : (t : Saved) (x y : Slot) → slot_told x ≡ t → slot_told y ≡ t → x ≡ y
+pub one-slot : (t : Saved) (x y : Option ℕ) → slot_told x ≡ t → slot_told y ≡ t → x ≡ y
 one-slot t x y p q = LeftInverse-Injective back_slot slot_told way_slot x y (p ∙ sym q)

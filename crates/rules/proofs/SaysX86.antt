@@ -6,12 +6,10 @@ use mathlib.Core.Logic.{◌⊎◌, inl, inr}
 use mathlib.Core.Bool.{Bool, true, false}
 use mathlib.Core.List.{List}
 use native.Mathlib.Omega.{arith}
-use lib.ListN.{take}
+use lib.ListN.{length, take}
 use Rattle.opcodes.specs.Bits.{bits, kind_of, specific_of}
 use Rattle.opcodes.specs.WordsX86 as words
 use Rattle.opcodes.specs.WordsX86.{Told, alone, listing, parse_of}
-use Rattle.opcodes.specs.declared.x86_64.OpcodeX86_64.{OpcodeX86_64}
-use Rattle.opcodes.specs.declared.x86_64.ParsedX86_64.{ParsedX86_64}
 use Rattle.opcodes.proofs.KindsX86.{of-kind, of-no-kind}
 use Rattle.permutation.specs.Permutation.{accepts, registers_of}
 use Rattle.permutation.proofs.Laws.{below-accepted, decode-accepts, decode-refuses}
@@ -54,11 +52,11 @@ said w = go (kind_of w) refl (accepts (count_of w) (bits 0 10 w)) refl
         unrecognised (omega arith)
         (of-no-kind (kind_of w) w refl (λ z. omega arith) (λ z. omega arith) (λ z. omega arith) (λ z. omega arith) (λ z. omega arith))
 
--- What a frame's numbers are known to be: the offset is small, and the list names registers.
+-- What a frame's numbers are known to be: the offset is small, and the list has as many registers as are counted.
 abbrev pub Fits : ℕ → words.Word → List ℕ → Type 0
 Fits n words.null saved = Unit {0}
 Fits n (words.frame_based offset fields) saved = offset ≤ 2040
-Fits n (words.frameless_immediate size) saved = (n ≤ 6) × Named 6 (take n saved)
+Fits n (words.frameless_immediate size) saved = (n ≤ 6) × (length (take n saved) ≡ n) × Named 6 (take n saved)
 Fits n (words.frameless_indirect place adjust) saved = Unit {0}
 Fits n (words.dwarf low24) saved = Unit {0}
 Fits n words.invalid_frameless saved = Unit {0}
@@ -70,24 +68,16 @@ fit w = go (said w)
     go : Said w → Fits (count_of w) (parse_of w).word (parse_of w).saved
     go (null k p) = rw p tt
     go (based k p) = rw p (omega arith)
-    go (immediate k a p) = let l = accepted-lists w a in rw (p, taken w a) (l.few, list-named w (list_of w) l)
+    go (immediate k a p) = let l = accepted-lists w a in rw (p, taken w a) (l.few, l.many, list-named w (list_of w) l)
     go (indirect k a p) = rw p tt
     go (invalid k a p) = rw p tt
     go (dwarf k p) = rw p tt
     go (unrecognised k p) = rw p tt
 
 -- the rule goes by what parsing tells
-pub rule-of : (w : ℕ) (t : Told) → t ≡ parse_of w → by_word (count_of w) t.word t.saved ≡ rule_of w
+pub rule_of_told : (w : ℕ) (t : Told) → t ≡ parse_of w → by_word (count_of w) t.word t.saved ≡ rule_of w
 unfolding rule_of
-rule-of w t e = ap (λ (u : Told). by_word (count_of w) u.word u.saved) e
+rule_of_told w t e = ap (λ (u : Told). by_word (count_of w) u.word u.saved) e
 
-pub fit-told : (w : ℕ) (t : Told) → t ≡ parse_of w → Fits (count_of w) t.word t.saved
-fit-told w t e = subst (λ (u : Told). Fits (count_of w) u.word u.saved) (sym e) (fit w)
-
--- as the code has it: what was parsed, and which case it is
-module _ (w : ℕ) (p : ParsedX86_64) (o : OpcodeX86_64) (e : words.told p ≡ parse_of w) (q : p.opcode ≡ o) where
-  pub rule-said : by_word (count_of w) (words.word_of o) p.saved_regs ≡ rule_of w
-  rule-said = ap (λ (x : OpcodeX86_64). by_word (count_of w) (words.word_of x) p.saved_regs) (sym q) ∙ rule-of w (words.told p) e
-
-  pub fit-said : Fits (count_of w) (words.word_of o) p.saved_regs
-  fit-said = subst (λ (x : OpcodeX86_64). Fits (count_of w) (words.word_of x) p.saved_regs) q (fit-told w (words.told p) e)
+pub fit_told : (w : ℕ) (t : Told) → t ≡ parse_of w → Fits (count_of w) t.word t.saved
+fit_told w t e = subst (λ (u : Told). Fits (count_of w) u.word u.saved) (sym e) (fit w)

@@ -1,10 +1,8 @@
 -- docs/FORMAT.md, 10.1 and 11: what rules answer, on every machine; the refusals' numbers and values.
 -- Assumes nothing.
-use Rattle.std.specs.Prelude.{ℕ, zero, suc, List, get_or}
+use Rattle.std.specs.Prelude.{ℕ, zero, suc, List, Option, Some, None, Result, Ok, Err, get_or}
 use Rattle.frame.specs.Frame.{Anchor, Return, Frame, distances_of}
 use Rattle.rules.specs.declared.Refusal.{Refusal}
-use Rattle.rules.specs.declared.Outcome.{Outcome}
-use Rattle.rules.specs.declared.Slot.{Slot}
 
 -- a refusal's number and what it carries; 0 and 0 where nothing is refused
 pub record Number : Type 0 where
@@ -24,9 +22,9 @@ refusal_of Refusal.FramelessIndirect = numbered 25 0
 refusal_of Refusal.AboveAddresses = numbered 26 0
 refusal_of Refusal.OutsideWindow = numbered 27 0
 
-abbrev pub outcome_of : Outcome → Number
-outcome_of Outcome.Answered = numbered 0 0
-outcome_of (Outcome.Refused r) = refusal_of r
+abbrev pub outcome_of : {A : Type 0} → Result A Refusal → Number
+outcome_of (Ok x) = numbered 0 0
+outcome_of (Err r) = refusal_of r
 
 -- What a rule tells: where CFA is counted from and how far, where the return address is, and each preserved register's distance below CFA,
 -- 0 for one that is not listed; or a refusal, and nothing else.
@@ -55,6 +53,6 @@ saved_by (suc d) = below (suc d)
 abbrev pub saved_at : List ℕ → ℕ → Saved
 saved_at ds r = saved_by (get_or ds r 0)
 
-abbrev pub slot_told : Slot → Saved
-slot_told Slot.Absent = absent
-slot_told (Slot.BelowCfa d) = below d
+abbrev pub slot_told : Option ℕ → Saved
+slot_told None = absent
+slot_told (Some d) = below d

@@ -1,13 +1,14 @@
 -- docs/FORMAT.md, 10.1: the rule of an opcode word of arm64.
 -- Assumes nothing.
-use Rattle.std.specs.Prelude.{ℕ, suc, ◌+◌, ◌*◌, List, [], ◌∷◌, ◌++◌, Bool, cond, ltb, replicate}
+use Rattle.std.specs.Prelude.{ℕ, suc, ◌+◌, ◌*◌, List, [], ◌∷◌, ◌++◌, Bool, cond, ltb, replicate, Result, Ok, Err}
 use Rattle.opcodes.specs.WordsArm64 as words
 use Rattle.opcodes.specs.WordsArm64.{parse_of}
 use Rattle.frame.specs.Frame.{Anchor, stack, register, Return, slot, holds}
 use Rattle.frame.specs.Downwards as downwards
-use Rattle.rules.specs.Answers.{Number, numbered, outcome_of, Ruling, ruling}
+use Rattle.rules.specs.Answers.{Number, numbered, refusal_of, Ruling, ruling}
 use Rattle.rules.specs.declared.CfaRegister.{CfaRegister}
-use Rattle.rules.specs.declared.arm64.«RuleArm64».{«RuleArm64»}
+use Rattle.rules.specs.declared.Refusal.{Refusal}
+use Rattle.rules.specs.declared.Rule.{Rule}
 
 -- Preserved, by their places: x19 to x30 at 0 to 11, d8 to d15 at 12 to 19.
 
@@ -45,6 +46,10 @@ abbrev pub return_told : CfaRegister → Return
 return_told CfaRegister.StackPointer = holds 11
 return_told CfaRegister.FramePointer = slot 8
 
-abbrev pub rule_told : «RuleArm64» → Ruling
-rule_told u =
-    record { refusal = outcome_of u.outcome; anchor = anchor_told u.cfa_register; distance = u.cfa_distance; return = return_told u.cfa_register; below = u.below }
+abbrev pub ruled : Rule 20 → Ruling
+ruled u =
+    record { refusal = numbered 0 0; anchor = anchor_told u.cfa_register; distance = u.cfa_distance; return = return_told u.cfa_register; below = u.below }
+
+abbrev pub rule_told : Result (Rule 20) Refusal → Ruling
+rule_told (Ok u) = ruled u
+rule_told (Err e) = refusal (refusal_of e)

@@ -1,6 +1,6 @@
 -- docs/FORMAT.md, 10.1: the rule of an opcode word of x86_64.
 -- Assumes nothing.
-use Rattle.std.specs.Prelude.{ℕ, suc, ◌+◌, ◌*◌, List, [], ◌∷◌, Bool, true, false, cond, not, ◌&&◌, leb, ltb, length, take, replicate}
+use Rattle.std.specs.Prelude.{ℕ, suc, ◌+◌, ◌*◌, List, [], ◌∷◌, Bool, true, false, cond, not, ◌&&◌, leb, ltb, length, take, replicate, Result, Ok, Err}
 use Rattle.opcodes.specs.Bits.{bits}
 use Rattle.opcodes.specs.Registers.{Told, absent, register as named, unknown, named_of, fields_in}
 use Rattle.opcodes.specs.WordsX86 as words
@@ -9,9 +9,10 @@ use Rattle.frame.specs.Frame.{Anchor, stack, register, slot}
 use Rattle.permutation.specs.Permutation.{member}
 use Rattle.frame.specs.Pushes as pushes
 use Rattle.frame.specs.Fields as fields
-use Rattle.rules.specs.Answers.{Number, numbered, outcome_of, Ruling, ruling}
+use Rattle.rules.specs.Answers.{Number, numbered, refusal_of, Ruling, ruling}
 use Rattle.rules.specs.declared.CfaRegister.{CfaRegister}
-use Rattle.rules.specs.declared.x86_64.RuleX86_64.{RuleX86_64}
+use Rattle.rules.specs.declared.Refusal.{Refusal}
+use Rattle.rules.specs.declared.Rule.{Rule}
 
 -- Preserved, by their places: rbx, r12, r13, r14, r15, rbp. The return address lies at CFA - 8.
 abbrev pub refusal : Number → Ruling
@@ -55,5 +56,6 @@ abbrev pub anchor_told : CfaRegister → Anchor
 anchor_told CfaRegister.StackPointer = stack
 anchor_told CfaRegister.FramePointer = register 5
 
-abbrev pub rule_told : RuleX86_64 → Ruling
-rule_told u = record { refusal = outcome_of u.outcome; anchor = anchor_told u.cfa_register; distance = u.cfa_distance; return = slot 8; below = u.below }
+abbrev pub rule_told : Result (Rule 6) Refusal → Ruling
+rule_told (Ok u) = record { refusal = numbered 0 0; anchor = anchor_told u.cfa_register; distance = u.cfa_distance; return = slot 8; below = u.below }
+rule_told (Err e) = refusal (refusal_of e)

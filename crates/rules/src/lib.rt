@@ -7,8 +7,11 @@ pub mod x86_64;
 ghost use Rattle.std.specs.Prelude.{◌≡◌};
 ghost use Rattle.rules.specs.Answers.{refusal_of, outcome_of, saved_at, slot_told};
 
+pub use crate::arm64::RuleArm64;
+pub use crate::x86_64::RuleX86_64;
+
 // Why there is no rule for a word, or no step by it.
-#[derive(Clone, Copy)]
+#[derive(Clone, Copy, Debug, PartialEq, Eq)]
 pub enum Refusal {
     Null,
     Dwarf { eh_frame_fde: u32 },
@@ -23,39 +26,27 @@ pub enum Refusal {
     OutsideWindow,
 }
 
-#[derive(Clone, Copy)]
-pub enum Outcome {
-    Answered,
-    Refused(Refusal),
-}
-
 // The register that CFA is counted from.
-#[derive(Clone, Copy)]
+#[derive(Clone, Copy, Debug, PartialEq, Eq)]
 pub enum CfaRegister {
     StackPointer,
     FramePointer,
 }
 
-// What a rule says of a register: that it isn't saved, or how far below CFA its slot starts.
-#[derive(Clone, Copy)]
-pub enum Slot {
-    Absent,
-    BelowCfa(u16),
+// A machine's rule, over its N preserved registers: below has the distance below CFA of each saved one's slot, 0 for a register that isn't
+// listed.
+#[derive(Clone, Copy, Debug, PartialEq, Eq)]
+pub struct Rule<const N: usize> {
+    pub cfa_register: CfaRegister,
+    pub cfa_distance: u64,
+    pub below: [u16; N],
 }
 
-impl Slot {
-    // Of the register at a place, by the distances of a rule; past them there is none.
-    pub fn of(below: &[u16], place: usize) -> Slot
-        ensures { slot_told result ≡ saved_at below.now place }
-    {
-        if place < below.len() {
-            let distance = below[place];
-            if distance != 0 {
-                return Slot::BelowCfa(distance);
-            }
-        }
-        Slot::Absent
-    }
+// How far below CFA the slot of the register at a place starts, by the distances of a rule, if it has one.
+pub fn slot(below: &[u16], place: usize) -> Option<u16>
+    ensures { slot_told result ≡ saved_at below.now place }
+{
+    below.get(place).copied().filter(|distance| *distance != 0)
 }
 
 impl Refusal {
@@ -65,7 +56,7 @@ impl Refusal {
     {
         match self {
             Refusal::Null => 20,
-            Refusal::Dwarf { eh_frame_fde: _ } => 21,
+            Refusal::Dwarf { .. } => 21,
             Refusal::UnrecognizedKind(_) => 22,
             Refusal::InvalidFrameless => 23,
             Refusal::NotSound => 24,
@@ -81,34 +72,28 @@ impl Refusal {
     {
         match self {
             Refusal::Dwarf { eh_frame_fde } => eh_frame_fde,
-            Refusal::UnrecognizedKind(kind) => kind as u32,
-            Refusal::Null => 0,
-            Refusal::InvalidFrameless => 0,
-            Refusal::NotSound => 0,
-            Refusal::FramelessIndirect => 0,
-            Refusal::AboveAddresses => 0,
-            Refusal::OutsideWindow => 0,
+            Refusal::UnrecognizedKind(kind) => u32::from(kind),
+            _ => 0,
         }
     }
 }
 
-impl Outcome {
-    // 0 where there is an answer.
-    pub fn number(self) -> u8
-        ensures { result ≡ (outcome_of self).number }
-    {
-        match self {
-            Outcome::Answered => 0,
-            Outcome::Refused(refusal) => refusal.number(),
-        }
+// The refusal's number, 0 where there is an answer.
+pub fn number_of<T>(answer: &Result<T, Refusal>) -> u8
+    ensures { result ≡ (outcome_of answer.now).number }
+{
+    match answer {
+        Ok(_) => 0,
+        Err(refusal) => refusal.number(),
     }
+}
 
-    pub fn value(self) -> u32
-        ensures { result ≡ (outcome_of self).value }
-    {
-        match self {
-            Outcome::Answered => 0,
-            Outcome::Refused(refusal) => refusal.value(),
-        }
+// What the refusal carries, 0 where there is an answer.
+pub fn value_of<T>(answer: &Result<T, Refusal>) -> u32
+    ensures { result ≡ (outcome_of answer.now).value }
+{
+    match answer {
+        Ok(_) => 0,
+        Err(refusal) => refusal.value(),
     }
 }

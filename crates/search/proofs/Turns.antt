@@ -10,28 +10,20 @@ use native.Mathlib.Omega.{arith}
 use native.Mathlib.Decide.{dec_lt}
 use lib.Dec.{ltb}
 use lib.Pow.{pow-add, pow_pos, pow_mono, shr-shr}
-use lib.Count.{count_leading_zeros, leading_top}
 use lib.ListN.{length, get_or}
 use borrow.Author.Tests.{ltb-true, ltb-false, lt-ltb}
+use Rattle.std.specs.Int.{w32, from_le_bytes}
 use Rattle.reader.specs.Reader.{number_at, word_at}
 use Rattle.reader.proofs.Laws.{there}
 use Rattle.search.specs.declared.Layout.{Layout}
 use Rattle.search.specs.declared.Spot.{Spot}
-use Rattle.search.specs.declared.Keys.{Keys}
+use Rattle.search.specs.declared.four.Four.{Four}
 use Rattle.search.specs.declared.Span.{Span}
 use Rattle.search.specs.declared.four.Rest.{Rest}
-use Rattle.search.specs.declared.four.Rests.{Rests}
-use Rattle.search.specs.declared.four.Counts.{Counts}
 use Rattle.search.specs.declared.Going.{Going}
-use Rattle.search.specs.Search.{size_of, count_of, key_of, mid, more, run, search_of, spots_of}
-use Rattle.search.specs.Steps.{hi, whole, going, span_of, rests_of, counts_of, all_of, Ending, unprobed_of, Ready, Took, OnWay, Below, Halved, Alike, Arrived, Abreast}
+use Rattle.search.specs.Search.{size_of, count_of, key_of, key_in, mid, more, run, search_of}
+use Rattle.search.specs.Steps.{hi, whole, going, span_of, rests_of, counts_of, all_of, unprobed_of, Ready, Took, OnWay, Below, Halved, Alike, Arrived, Abreast}
 use Rattle.search.proofs.Laws.{spot, more-more, run-done, run_up, run_down, starts, bits}
-
--- an entry that is one of the first so many lies in the list
-pub entry-inside : (l : Layout) (i hi n : ℕ) → size_of l * hi ≤ n → i < hi → size_of l * i + 4 ≤ n
-entry-inside Layout.Pages i hi n h t = omega arith
-entry-inside Layout.Regular i hi n h t = omega arith
-entry-inside Layout.Compressed i hi n h t = omega arith
 
 -- so many entries are no more than their bytes
 pub less-inside : (l : Layout) (i n : ℕ) → size_of l * i ≤ n → i ≤ n
@@ -39,12 +31,21 @@ less-inside Layout.Pages i n h = omega arith
 less-inside Layout.Regular i n h = omega arith
 less-inside Layout.Compressed i n h = omega arith
 
-pub inside-by : (l m : Layout) (i n : ℕ) → l ≡ m → size_of l * i + 4 ≤ n → size_of m * i + 4 ≤ n
-inside-by l m i n e h = rw e at h
+-- an entry's key goes by the number where it starts
+pub keyed : (l : Layout) (list : List ℕ) (i : ℕ) → key_in l (word_at 4 list (size_of l * i)) ≡ key_of list l i
+unfolding key_in key_of
+keyed Layout.Pages list i = refl
+keyed Layout.Regular list i = refl
+keyed Layout.Compressed list i = refl
 
-pub four_bytes : (list : List ℕ) (o : ℕ) → o + 4 ≤ length list → number_at 4 (get_or list o 0 ∷ get_or list (o + 1) 0 ∷ get_or list (o + 2) 0 ∷ get_or list (o + 3) 0 ∷ []) 0 ≡ word_at 4 list o
+-- and so it does for a size that is the layout's, and a word that was read there
+pub keyed_by : (l : Layout) (list : List ℕ) (i k w n s : ℕ) → k ≡ key_in l w → w ≡ word_at 4 list (n * i) → n ≡ s → s ≡ size_of l → k ≡ key_of list l i
+keyed_by l list i k w n s a b c d = rw (a, b, c, d) (keyed l list i)
+
+-- the bytes of a word make the number there
+pub four_bytes : (list : List ℕ) (o : ℕ) → o + 4 ≤ length list → from_le_bytes w32 (get_or list o 0 ∷ get_or list (o + 1) 0 ∷ get_or list (o + 2) 0 ∷ get_or list (o + 3) 0 ∷ []) ≡ word_at 4 list o
 unfolding number_at
-four_bytes list o h = simp unary_clauses (simp unary_clauses at (sym (there 4 list o h)))
+four_bytes list o h = simp unary_clauses (omega (arith, simp unary_clauses at (sym (there 4 list o h))))
 
 -- fewer entries lie in a list too
 pub fewer-inside : (l : Layout) (hi n m : ℕ) → hi ≤ n → size_of l * n ≤ m → size_of l * hi ≤ m
@@ -52,17 +53,10 @@ fewer-inside Layout.Pages hi n m h t = omega arith
 fewer-inside Layout.Regular hi n m h t = omega arith
 fewer-inside Layout.Compressed hi n m h t = omega arith
 
--- what is chosen of two equal numbers, and of an entry and the last one
+-- what is chosen of two equal numbers
 both : (t : Bool) (a b : ℕ) → a ≡ b → cond t a b ≡ b
 both true a b e = e
 both false a b e = refl
-
-pub clamped : (lo n i : ℕ) → 0 < n → i ≡ cond (ltb lo n) lo (n - 1) → i < n
-clamped lo n i h e = rw e (by (ltb lo n) refl)
-  where
-    by : (t : Bool) → t ≡ ltb lo n → cond t lo (n - 1) < n
-    by true q = ltb-true lo n (sym q)
-    by false q = omega arith
 
 abbrev span : ℕ → ℕ → ℕ → Span
 span lo len m = record { lo = lo; len = len; mid = m }
@@ -104,14 +98,15 @@ module _ (key : ℕ → ℕ) (x : ℕ) where
         by true q = goes-up (omega (arith, ltb-true k (x + 1) (sym q), e))
         by false q = goes_down (omega (arith, ltb-false k (x + 1) (sym q), e))
 
-    pub lean-round : (k : ℕ) → k ≡ key p.mid → (a b : ℕ) → a ≡ cond (ltb k (x + 1)) (p.mid + 1) p.lo → b ≡ cond (ltb k (x + 1)) (p.len - 1) p.len
-        → Took key x 1 p (span a (b / 2) (a + b / 2 / 2))
-    lean-round k e a b u v = rw (u, v) (by (ltb k (x + 1)) refl)
-      where
-        by : (t : Bool) → t ≡ ltb k (x + 1)
-            → Took key x 1 p (span (cond t (p.mid + 1) p.lo) (cond t (p.len - 1) p.len / 2) (cond t (p.mid + 1) p.lo + cond t (p.len - 1) p.len / 2 / 2))
-        by true q = goes-up (omega (arith, ltb-true k (x + 1) (sym q), e))
-        by false q = goes_down (omega (arith, ltb-false k (x + 1) (sym q), e))
+  -- and by the fewer numbers of one among four
+  pub lean_round : (p : Rest) → 0 < p.len → (k : ℕ) → k ≡ key (p.lo + p.len / 2) → (a b : ℕ) → a ≡ cond (ltb k (x + 1)) (p.lo + p.len / 2 + 1) p.lo
+      → b ≡ cond (ltb k (x + 1)) (p.len - 1) p.len → Took key x 1 (span_of p) (span_of (record { lo = a; len = b / 2 }))
+  lean_round p some k e a b u v = rw (u, v) (by (ltb k (x + 1)) refl)
+    where
+      by : (t : Bool) → t ≡ ltb k (x + 1)
+          → Took key x 1 (span_of p) (span_of (record { lo = cond t (p.lo + p.len / 2 + 1) p.lo; len = cond t (p.len - 1) p.len / 2 }))
+      by true q = goes-up (span_of p) some refl (omega (arith, ltb-true k (x + 1) (sym q), e))
+      by false q = goes_down (span_of p) some refl (omega (arith, ltb-false k (x + 1) (sym q), e))
 
   -- some rounds, and some more
   pub then : (j k : ℕ) (p q r : Span) → Took key x j p q → Took key x k q r → Took key x (j + k) p r
@@ -124,17 +119,9 @@ module _ (key : ℕ → ℕ) (x : ℕ) where
         large = rw (pow-add 2 j k, mul_assoc (2 ^ j) (2 ^ k) (r.len + 2)) (omega (arith, mul-le-mul_left (2 ^ j) b.large, a.large));
       }
 
-  -- and a round more can be gone
-  pub goes_on : (l : Layout) (k m : ℕ) (p q : Span) → size_of l * hi p ≤ m → Took key x k p q → 2 ^ k * 2 < p.len + 2 → Ready (size_of l) m q
-  goes_on l k m p q h t w = record { fits = fewer-inside l _ _ _ t.inside h; some = by (dec_lt 0 q.len); middle = t.middle }
-    where
-      by : Dec (0 < q.len) → 0 < q.len
-      by (yes s) = s
-      by (no s) = let e : q.len ≡ 0 = omega arith in absurd (omega (arith, rw e at t.large))
-
   module _ (n : ℕ) where
-    pub sets-out : OnWay key x n (going (whole n) n 0)
-    sets-out = record { rounds = rw (zero-add n) (starts key x n); inside = omega arith; middle = omega arith; least = le_refl _; most = omega arith }
+    pub sets_out : OnWay key x n (going (whole n) n 0)
+    sets_out = record { rounds = rw (zero-add n) (starts key x n); inside = omega arith; middle = omega arith; least = le_refl _; most = omega arith }
 
     pub ready : (l : Layout) (m : ℕ) (g : Going) → OnWay key x n g → 2 ≤ g.width → size_of l * n ≤ m → Ready (size_of l) m g.left
     ready l m g o w h = record { fits = fewer-inside l _ _ _ o.inside h; some = omega (arith, o.most); middle = o.middle }
@@ -186,14 +173,14 @@ pub none : (key : ℕ → ℕ) (x n : ℕ) → n ≡ 0 → spot 0 0 ≡ run key 
 none key x n e = sym (ap (run key x 0) e ∙ run-done key x 0 0 zero-le)
 
 -- the entries that a list has lie in it
-pub all-inside : (l : Layout) (list : List ℕ) → size_of l * count_of list l ≤ length list
+pub all_inside : (l : Layout) (list : List ℕ) → size_of l * count_of list l ≤ length list
 unfolding count_of
-all-inside Layout.Pages list = omega arith
-all-inside Layout.Regular list = omega arith
-all-inside Layout.Compressed list = omega arith
+all_inside Layout.Pages list = omega arith
+all_inside Layout.Regular list = omega arith
+all_inside Layout.Compressed list = omega arith
 
-pub counted-inside : (l : Layout) (list : List ℕ) (n : ℕ) → n ≡ count_of list l → size_of l * n ≤ length list
-counted-inside l list n e = rw e (all-inside l list)
+pub counted_inside : (l : Layout) (list : List ℕ) (n : ℕ) → n ≡ count_of list l → size_of l * n ≤ length list
+counted_inside l list n e = rw e (all_inside l list)
 
 -- the bisection over them is the search
 pub searched : (l : Layout) (list : List ℕ) (x n : ℕ) → n ≡ count_of list l → {r : Spot} → r ≡ run (key_of list l) x 0 n → r ≡ search_of list l x
@@ -207,107 +194,46 @@ module _ (n k : ℕ) where
       (le-div_iff_mul-le {k = 2 ^ rounds} {x = 2} {y = n} (pow_pos rounds)).1
       (omega (arith, pow-suc 2 rounds, pow_mono {i = suc rounds} {j = k} t, h.enough (omega arith)))
 
-  narrow : Halved n k → n / 2 ^ k < 2
-  narrow h = (div-lt_iff_lt-mul {k = 2 ^ k} {x = n} {y = 2} (pow_pos k)).1 (omega (arith, pow-suc 2 k, h.fewer))
-
--- by its leading zeros
-module _ (n : ℕ) (some : 0 < n) (fits : n < 2 ^ 64) where
-  pub few-zeros : count_leading_zeros 64 n ≤ 63
-  few-zeros = omega (arith, (leading_top 64 n some fits).1)
-
-  pub by-zeros : Halved n (63 - count_leading_zeros 64 n)
-  by-zeros =
-      let top = leading_top 64 n some fits in
-      let same : 63 - count_leading_zeros 64 n ≡ top.0 = omega (arith, top.1) in
-      rw same (record { fewer = top.3; enough = λ h. top.2 })
-
 -- one of four searches side by side
 module _ (l : Layout) (list : List ℕ) (x : ℕ) where
   off : Arrived l list x (all_of (count_of list l)) 0
-  off = let o = sets-out (key_of list l) x (count_of list l) in record { rounds = o.rounds; inside = o.inside; middle = refl; least = omega arith; most = omega arith }
+  off = let o = sets_out (key_of list l) x (count_of list l) in record { rounds = o.rounds; inside = o.inside; middle = refl; least = omega arith; most = omega arith }
 
   module _ (p : Rest) (rounds : ℕ) (a : Arrived l list x p rounds) where
     -- two entries or more are left before the last of the rounds that its list takes
     may : (k : ℕ) → Halved (count_of list l) k → rounds < k → Ready (size_of l) (length list) (span_of p)
-    may k h t = ready (key_of list l) x _ l _ _ a (wide _ k rounds h t) (all-inside l list)
+    may k h t = ready (key_of list l) x _ l _ _ a (wide _ k rounds h t) (all_inside l list)
 
     goes : (q : Rest) → Took (key_of list l) x 1 (span_of p) (span_of q) → Arrived l list x q (rounds + 1)
     goes q t = rw (← shr-shr (count_of list l) rounds 1) (onward (key_of list l) x (count_of list l) 1 _ _ a t)
 
-    -- at most one entry is left after them
-    at-end : Halved (count_of list l) rounds → p.len ≤ 1
-    at-end h = omega (arith, a.least, narrow _ rounds h)
-
-    pub nearly : p.len ≤ 1 → (n : ℕ) → n ≡ count_of list l → (g : Going) → g ≡ going (span_of p) p.len rounds → Below (key_of list l) x n 2 g
-    nearly h n e g f =
-        rw (e, f)
-        (record {
-          on = record { rounds = a.rounds; inside = a.inside; middle = refl; least = le_refl _; most = omega arith };
-          narrow = omega arith;
-        })
-
 -- four of them
-module _ (l : Layout) (la lb lc ld : List ℕ) (x : Keys) (n : Counts) (counts : n ≡ counts_of l la lb lc ld) where
-  pub begins : (p : Rests) → p ≡ unprobed_of n → Abreast l la lb lc ld x (rests_of p.a p.b p.c p.d) 0
-  begins p e = rw (e, counts) (record { a = off l la _; b = off l lb _; c = off l lc _; d = off l ld _ })
+module _ (l : Layout) (s : Four (List ℕ)) (x : Four ℕ) (n : Four ℕ) (counts : n ≡ counts_of l s) where
+  pub begins : (p : Four Rest) → p ≡ unprobed_of n → Abreast l s x (rests_of p.a p.b p.c p.d) 0
+  begins p e = rw (e, counts) (record { a = off l s.a _; b = off l s.b _; c = off l s.c _; d = off l s.d _ })
 
   -- how often each can be halved
-  halved : (k : ℕ) → Alike k n → Halved (count_of la l) k × Halved (count_of lb l) k × Halved (count_of lc l) k × Halved (count_of ld l) k
+  halved : (k : ℕ) → Alike k n → Halved (count_of s.a l) k × Halved (count_of s.b l) k × Halved (count_of s.c l) k × Halved (count_of s.d l) k
   halved k h = let i = rw counts at h in (i.a, i.b, i.c, i.d)
 
-  module _ (k : ℕ) (h : Alike k n) (p : Rests) (rounds : ℕ) (v : Abreast l la lb lc ld x p rounds) where
+  module _ (k : ℕ) (h : Alike k n) (p : Four Rest) (rounds : ℕ) (v : Abreast l s x p rounds) where
     -- each can go a round more
-    pub may-go : rounds < k → Ready (size_of l) (length la) (span_of p.a) × Ready (size_of l) (length lb) (span_of p.b) × Ready (size_of l) (length lc) (span_of p.c) × Ready (size_of l) (length ld) (span_of p.d)
+    pub may-go : rounds < k → Ready (size_of l) (length s.a) (span_of p.a) × Ready (size_of l) (length s.b) (span_of p.b) × Ready (size_of l) (length s.c) (span_of p.c) × Ready (size_of l) (length s.d) (span_of p.d)
     may-go t = let i = halved k h in (
-      may l la _ _ _ v.a k i.0 t,
-      may l lb _ _ _ v.b k i.1 t,
-      may l lc _ _ _ v.c k i.2 t,
-      may l ld _ _ _ v.d k i.3 t,
+      may l s.a _ _ _ v.a k i.0 t,
+      may l s.b _ _ _ v.b k i.1 t,
+      may l s.c _ _ _ v.c k i.2 t,
+      may l s.d _ _ _ v.d k i.3 t,
     )
 
-  -- and has at most one entry left after the last
-  pub all-ended : (k : ℕ) → Alike k n → (p : Rests) → Abreast l la lb lc ld x p k
-      → Ending l la x.a n.a p.a k × Ending l lb x.b n.b p.b k × Ending l lc x.c n.c p.c k × Ending l ld x.d n.d p.d k
-  all-ended k h p v = let i = halved k h in (
-    (ap (λ (m : Counts). m.a) counts, v.a, at-end l la _ _ _ v.a i.0),
-    (ap (λ (m : Counts). m.b) counts, v.b, at-end l lb _ _ _ v.b i.1),
-    (ap (λ (m : Counts). m.c) counts, v.c, at-end l lc _ _ _ v.c i.2),
-    (ap (λ (m : Counts). m.d) counts, v.d, at-end l ld _ _ _ v.d i.3),
-  )
-
-pub went : (l : Layout) (la lb lc ld : List ℕ) (x : Keys) (p : Rests) (rounds : ℕ) → Abreast l la lb lc ld x p rounds → (q : Rests)
-    → Took (key_of la l) x.a 1 (span_of p.a) (span_of q.a) → Took (key_of lb l) x.b 1 (span_of p.b) (span_of q.b)
-    → Took (key_of lc l) x.c 1 (span_of p.c) (span_of q.c) → Took (key_of ld l) x.d 1 (span_of p.d) (span_of q.d)
-    → Abreast l la lb lc ld x q (rounds + 1)
-went l la lb lc ld x p rounds v q ta tb tc td =
+pub went : (l : Layout) (s : Four (List ℕ)) (x : Four ℕ) (p : Four Rest) (rounds : ℕ) → Abreast l s x p rounds → (q : Four Rest)
+    → Took (key_of s.a l) x.a 1 (span_of p.a) (span_of q.a) → Took (key_of s.b l) x.b 1 (span_of p.b) (span_of q.b)
+    → Took (key_of s.c l) x.c 1 (span_of p.c) (span_of q.c) → Took (key_of s.d l) x.d 1 (span_of p.d) (span_of q.d)
+    → Abreast l s x q (rounds + 1)
+went l s x p rounds v q ta tb tc td =
     record {
-      a = goes l la _ _ _ v.a q.a ta;
-      b = goes l lb _ _ _ v.b q.b tb;
-      c = goes l lc _ _ _ v.c q.c tc;
-      d = goes l ld _ _ _ v.d q.d td;
+      a = goes l s.a _ _ _ v.a q.a ta;
+      b = goes l s.b _ _ _ v.b q.b tb;
+      c = goes l s.c _ _ _ v.c q.c tc;
+      d = goes l s.d _ _ _ v.d q.d td;
     }
-
--- after the last of k rounds
-pub all-gone : (l : Layout) (la lb lc ld : List ℕ) (x : Keys) (p : Rests) (j k : ℕ) → Abreast l la lb lc ld x p j → j ≤ k → k ≤ j → Abreast l la lb lc ld x p k
-all-gone l la lb lc ld x p j k v h t = let e : j ≡ k = omega arith in rw e at v
-
--- four lists whose shortest and longest can be halved as often
-pub alike : (k j few many : ℕ) (n : Counts) → k ≡ j → Halved few k → Halved many j
-    → (few ≤ n.a) × (few ≤ n.b) × (few ≤ n.c) × (few ≤ n.d) → (n.a ≤ many) × (n.b ≤ many) × (n.c ≤ many) × (n.d ≤ many) → Alike k n
-alike k j few many n e h t low high =
-    record {
-      a = between _ low.0 high.0;
-      b = between _ low.1 high.1;
-      c = between _ low.2 high.2;
-      d = between _ low.3 high.3;
-    }
-  where
-    between : (i : ℕ) → few ≤ i → i ≤ many → Halved i k
-    between i f m = let s = rw (← e) at t in record { fewer = omega (arith, s.fewer); enough = λ z. omega (arith, h.enough z) }
-
--- in one list all four are alike
-pub together : (l : Layout) (list : List ℕ) (n : Counts) → n ≡ counts_of l list list list list → (k : ℕ) → Halved n.a k → Alike k n
-together l list n e k h = let one = rw e at h in rw e (record { a = one; b = one; c = one; d = one })
-
-pub each : {a b c d e f g h : Spot} → a ≡ e → b ≡ f → c ≡ g → d ≡ h → spots_of a b c d ≡ spots_of e f g h
-each p q r s = cc

@@ -3,8 +3,7 @@
 use Rattle.std.specs.Prelude.{ℕ, zero, suc, ◌+◌, ◌-◌, ◌*◌, ◌/◌, ◌%◌, ◌≤◌, ◌<◌, List, cond, length, ltb, leb}
 use Rattle.reader.specs.Reader.{word_at}
 use Rattle.search.specs.declared.Spot.{Spot}
-use Rattle.search.specs.declared.Spots.{Spots}
-use Rattle.search.specs.declared.Keys.{Keys}
+use Rattle.search.specs.declared.four.Four.{Four}
 use Rattle.search.specs.declared.Layout.{Layout}
 
 -- the bytes of an entry, by the list's layout: 2.2, 2.4, 2.5
@@ -22,6 +21,12 @@ unfoldable pub key_of : List ℕ → Layout → ℕ → ℕ
 key_of list Layout.Pages i = word_at 4 list (12 * i)
 key_of list Layout.Regular i = word_at 4 list (8 * i)
 key_of list Layout.Compressed i = word_at 4 list (4 * i) % 16777216
+
+-- the key of an entry whose first number this is
+unfoldable pub key_in : Layout → ℕ → ℕ
+key_in Layout.Pages w = w
+key_in Layout.Regular w = w
+key_in Layout.Compressed w = w % 16777216
 
 unfoldable pub mid : ℕ → ℕ → ℕ
 mid lo hi = lo + (hi - lo) / 2
@@ -47,11 +52,11 @@ unfoldable pub search_of : List ℕ → Layout → ℕ → Spot
 search_of list layout x = run (key_of list layout) x 0 (count_of list layout)
 
 -- where four searches ended
-abbrev pub spots_of : Spot → Spot → Spot → Spot → Spots
+abbrev pub spots_of : Spot → Spot → Spot → Spot → Four Spot
 spots_of a b c d = record { a = a; b = b; c = c; d = d }
 
 -- the four searches, each in its own list
-abbrev pub spots_in : Layout → List ℕ → List ℕ → List ℕ → List ℕ → Keys → Spots
+abbrev pub spots_in : Layout → List ℕ → List ℕ → List ℕ → List ℕ → Four ℕ → Four Spot
 spots_in l la lb lc ld x = spots_of (search_of la l x.a) (search_of lb l x.b) (search_of lc l x.c) (search_of ld l x.d)
 
 -- 3.1: the first n keys rise strictly

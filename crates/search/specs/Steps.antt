@@ -1,12 +1,11 @@
 -- What the search's helpers promise. docs/FORMAT.md, 3.1 and 3.2, fix which entries are probed and how many; these probe the same ones.
 -- Assumes nothing.
 use Rattle.std.specs.Prelude.{ℕ, suc, ◌+◌, ◌*◌, ◌/◌, ◌^◌, ◌≤◌, ◌<◌, ◌≡◌, List}
+use Rattle.std.specs.Borrow.{Bor}
 use Rattle.search.specs.declared.Layout.{Layout}
-use Rattle.search.specs.declared.Keys.{Keys}
+use Rattle.search.specs.declared.four.Four.{Four}
 use Rattle.search.specs.declared.Span.{Span}
 use Rattle.search.specs.declared.four.Rest.{Rest}
-use Rattle.search.specs.declared.four.Rests.{Rests}
-use Rattle.search.specs.declared.four.Counts.{Counts}
 use Rattle.search.specs.declared.Going.{Going}
 use Rattle.search.specs.Search.{count_of, key_of, more, run}
 
@@ -52,18 +51,22 @@ pub record Below (key : ℕ → ℕ) (x n bound : ℕ) (g : Going) : Type 0 wher
 abbrev pub span_of : Rest → Span
 span_of p = record { lo = p.lo; len = p.len; mid = p.lo + p.len / 2 }
 
-abbrev pub rests_of : Rest → Rest → Rest → Rest → Rests
+abbrev pub rests_of : Rest → Rest → Rest → Rest → Four Rest
 rests_of a b c d = record { a = a; b = b; c = c; d = d }
 
+-- what four slices hold
+abbrev pub lists_of : Four (Bor (List ℕ)) → Four (List ℕ)
+lists_of s = record { a = s.a.now; b = s.b.now; c = s.c.now; d = s.d.now }
+
 -- how many entries four lists have
-abbrev pub counts_of : Layout → List ℕ → List ℕ → List ℕ → List ℕ → Counts
-counts_of l la lb lc ld = record { a = count_of la l; b = count_of lb l; c = count_of lc l; d = count_of ld l }
+abbrev pub counts_of : Layout → Four (List ℕ) → Four ℕ
+counts_of l s = record { a = count_of s.a l; b = count_of s.b l; c = count_of s.c l; d = count_of s.d l }
 
 -- of n entries none was probed
 abbrev pub all_of : ℕ → Rest
 all_of n = record { lo = 0; len = n }
 
-abbrev pub unprobed_of : Counts → Rests
+abbrev pub unprobed_of : Four ℕ → Four Rest
 unprobed_of n = rests_of (all_of n.a) (all_of n.b) (all_of n.c) (all_of n.d)
 
 -- halved k times, n entries are one or none, and not before
@@ -72,7 +75,7 @@ pub record Halved (n k : ℕ) : Type 0 where
   pub enough : 0 < k → 2 ^ k ≤ n
 
 -- so it is with each of four
-pub record Alike (k : ℕ) (n : Counts) : Type 0 where
+pub record Alike (k : ℕ) (n : Four ℕ) : Type 0 where
   pub a : Halved n.a k
   pub b : Halved n.b k
   pub c : Halved n.c k
@@ -87,8 +90,8 @@ abbrev pub Ending : Layout → List ℕ → ℕ → ℕ → Rest → ℕ → Typ
 Ending l list x n p rounds = (n ≡ count_of list l) × Arrived l list x p rounds × (p.len ≤ 1)
 
 -- four searches after as many rounds
-pub record Abreast (l : Layout) (la lb lc ld : List ℕ) (x : Keys) (p : Rests) (rounds : ℕ) : Type 0 where
-  pub a : Arrived l la x.a p.a rounds
-  pub b : Arrived l lb x.b p.b rounds
-  pub c : Arrived l lc x.c p.c rounds
-  pub d : Arrived l ld x.d p.d rounds
+pub record Abreast (l : Layout) (s : Four (List ℕ)) (x : Four ℕ) (p : Four Rest) (rounds : ℕ) : Type 0 where
+  pub a : Arrived l s.a x.a p.a rounds
+  pub b : Arrived l s.b x.b p.b rounds
+  pub c : Arrived l s.c x.c p.c rounds
+  pub d : Arrived l s.d x.d p.d rounds

@@ -1,11 +1,43 @@
 // Four searches side by side: for speed, as no round waits for another's.
 ghost use Rattle.std.specs.Prelude.{◌≡◌, ◌+◌, ◌≤◌, ◌<◌, length};
 ghost use Rattle.search.specs.Search.{size_of, count_of, key_of, search_of, spots_in};
-ghost use Rattle.search.specs.Steps.{Ready, Took, going, span_of, counts_of, unprobed_of, Halved, Alike, Ending, Abreast};
+ghost use Rattle.search.specs.Steps.{Ready, Took, going, span_of, lists_of, counts_of, unprobed_of, Halved, Alike, Ending, Abreast};
 
-use crate::{
-    Going, Keys, Layout, Span, Spot, Spots, all_of, by_one, by_two, count_of, either, last, probe,
-};
+use crate::{Entry, Going, Span, Spot, count_of, either, last, probe};
+
+// What four searches have, each its own.
+#[derive(Clone, Copy, Debug, PartialEq, Eq)]
+pub struct Four<T> {
+    pub a: T,
+    pub b: T,
+    pub c: T,
+    pub d: T,
+}
+
+impl<T> Four<T> {
+    fn map<U, F: Fn(T) -> U>(self, f: F) -> Four<U>
+        requires { F.pre f self.a × F.pre f self.b × F.pre f self.c × F.pre f self.d }
+        ensures { F.post f self.a result.a × F.post f self.b result.b × F.post f self.c result.c × F.post f self.d result.d }
+    {
+        Four {
+            a: f(self.a),
+            b: f(self.b),
+            c: f(self.c),
+            d: f(self.d),
+        }
+    }
+
+    fn zip<U>(self, other: Four<U>) -> Four<(T, U)>
+        ensures { (result.a ≡ (self.a, other.a)) × (result.b ≡ (self.b, other.b)) × (result.c ≡ (self.c, other.c)) × (result.d ≡ (self.d, other.d)) }
+    {
+        Four {
+            a: (self.a, other.a),
+            b: (self.b, other.b),
+            c: (self.c, other.c),
+            d: (self.d, other.d),
+        }
+    }
+}
 
 // The entries that are left to search. The one to probe next is found anew, which takes a register less.
 #[derive(Clone, Copy)]
@@ -14,188 +46,71 @@ struct Rest {
     pub len: usize,
 }
 
-// Four such.
-#[derive(Clone, Copy)]
-struct Rests {
-    pub a: Rest,
-    pub b: Rest,
-    pub c: Rest,
-    pub d: Rest,
-}
-
-// How many entries four lists have.
-#[derive(Clone, Copy)]
-struct Counts {
-    pub a: usize,
-    pub b: usize,
-    pub c: usize,
-    pub d: usize,
-}
-
-fn count_all(layout: Layout, la: &[u8], lb: &[u8], lc: &[u8], ld: &[u8]) -> Counts
-    ensures { result ≡ counts_of layout la.now lb.now lc.now ld.now }
+fn count_all<E: Entry>(lists: Four<&[u8]>) -> Four<usize>
+    ensures { result ≡ counts_of E.layout (lists_of lists.entry) }
 {
-    Counts {
-        a: count_of(la, layout),
-        b: count_of(lb, layout),
-        c: count_of(lc, layout),
-        d: count_of(ld, layout),
-    }
+    lists.map(|list| count_of::<E>(list))
 }
 
-fn fewer(a: usize, b: usize) -> usize
-    ensures { (result ≤ a) × (result ≤ b) }
-{
-    if a < b { a } else { b }
-}
-
-fn more(a: usize, b: usize) -> usize
-    ensures { (a ≤ result) × (b ≤ result) }
-{
-    if a < b { b } else { a }
-}
-
-fn fewest(n: Counts) -> usize
+fn fewest(n: Four<usize>) -> usize
     ensures { (result ≤ n.a) × (result ≤ n.b) × (result ≤ n.c) × (result ≤ n.d) }
 {
-    fewer(fewer(n.a, n.b), fewer(n.c, n.d))
+    n.a.min(n.b).min(n.c.min(n.d))
 }
 
-fn most(n: Counts) -> usize
+fn most(n: Four<usize>) -> usize
     ensures { (n.a ≤ result) × (n.b ≤ result) × (n.c ≤ result) × (n.d ≤ result) }
 {
-    more(more(n.a, n.b), more(n.c, n.d))
+    n.a.max(n.b).max(n.c.max(n.d))
 }
 
 // How often so many entries can be halved until one is left, or none.
-fn halvings(n: usize) -> usize
+fn halvings(n: usize) -> u32
     ensures { Halved n result }
 {
-    if n == 0 {
-        return 0;
-    }
-    (63 - u64::leading_zeros(n as u64)) as usize
+    n.checked_ilog2().unwrap_or(0)
 }
 
 // One round. It waits longer for its key than that of a search alone, and has less to do.
-fn halve(list: &[u8], layout: Layout, x: u32, p: Rest) -> Rest
-    requires { Ready (size_of layout) (length list.now) (span_of p) }
-    ensures { Took (key_of list.now layout) x 1 (span_of p) (span_of result) }
+#[tactic(auto, using(crate::proofs::Turns::lean_round))]
+fn halve<E: Entry>(list: &[u8], x: u32, p: Rest) -> Rest
+    requires { Ready (size_of E.layout) (length list.now) (span_of p) }
+    ensures { Took (key_of list.now E.layout) x 1 (span_of p) (span_of result) }
 {
-    let lo = p.lo;
-    let len = p.len;
+    let Rest { lo, len } = p;
     let mid = lo + len / 2;
-    let up = (probe(list, layout, mid) as u64) < x as u64 + 1;
+    let up = (probe::<E>(list, mid) as u64) < x as u64 + 1;
     Rest {
         lo: either(up, mid + 1, lo),
         len: either(up, len - 1, len) / 2,
     }
 }
 
-fn unprobed(n: Counts) -> Rests
+fn unprobed(n: Four<usize>) -> Four<Rest>
     ensures { result ≡ unprobed_of n }
 {
-    Rests {
-        a: Rest { lo: 0, len: n.a },
-        b: Rest { lo: 0, len: n.b },
-        c: Rest { lo: 0, len: n.c },
-        d: Rest { lo: 0, len: n.d },
-    }
+    n.map(|len| Rest { lo: 0, len })
 }
 
-// So many rounds of each search. Written out for each layout: a function with one caller is laid into it, and only then
-// does the compiler know the layout in every round.
-fn down_pages(
-    la: &[u8],
-    lb: &[u8],
-    lc: &[u8],
-    ld: &[u8],
-    x: Keys,
-    n: Counts,
-    rounds: usize,
-) -> Rests
-    requires { (n ≡ counts_of Layout.Pages la.now lb.now lc.now ld.now) × Alike rounds n }
-    ensures { Abreast Layout.Pages la.now lb.now lc.now ld.now x result rounds }
+// So many rounds of each search.
+fn down<E: Entry>(lists: Four<&[u8]>, x: Four<u32>, n: Four<usize>, rounds: u32) -> Four<Rest>
+    requires { (n ≡ counts_of E.layout (lists_of lists)) × Alike rounds n }
+    ensures { Abreast E.layout (lists_of lists.entry) x result rounds }
 {
-    let from = unprobed(n);
-    let mut a = from.a;
-    let mut b = from.b;
-    let mut c = from.c;
-    let mut d = from.d;
-    let mut gone: usize = 0;
-    while gone < rounds {
-        a = halve(la, Layout::Pages, x.a, a);
-        b = halve(lb, Layout::Pages, x.b, b);
-        c = halve(lc, Layout::Pages, x.c, c);
-        d = halve(ld, Layout::Pages, x.d, d);
-        gone += 1;
+    let sought = lists.zip(x);
+    let mut p = unprobed(n);
+    for _ in 0..rounds {
+        p = sought.zip(p).map(|((list, x), p)| halve::<E>(list, x, p));
     }
-    Rests { a, b, c, d }
-}
-
-fn down_regular(
-    la: &[u8],
-    lb: &[u8],
-    lc: &[u8],
-    ld: &[u8],
-    x: Keys,
-    n: Counts,
-    rounds: usize,
-) -> Rests
-    requires { (n ≡ counts_of Layout.Regular la.now lb.now lc.now ld.now) × Alike rounds n }
-    ensures { Abreast Layout.Regular la.now lb.now lc.now ld.now x result rounds }
-{
-    let from = unprobed(n);
-    let mut a = from.a;
-    let mut b = from.b;
-    let mut c = from.c;
-    let mut d = from.d;
-    let mut gone: usize = 0;
-    while gone < rounds {
-        a = halve(la, Layout::Regular, x.a, a);
-        b = halve(lb, Layout::Regular, x.b, b);
-        c = halve(lc, Layout::Regular, x.c, c);
-        d = halve(ld, Layout::Regular, x.d, d);
-        gone += 1;
-    }
-    Rests { a, b, c, d }
-}
-
-fn down_compressed(
-    la: &[u8],
-    lb: &[u8],
-    lc: &[u8],
-    ld: &[u8],
-    x: Keys,
-    n: Counts,
-    rounds: usize,
-) -> Rests
-    requires { (n ≡ counts_of Layout.Compressed la.now lb.now lc.now ld.now) × Alike rounds n }
-    ensures { Abreast Layout.Compressed la.now lb.now lc.now ld.now x result rounds }
-{
-    let from = unprobed(n);
-    let mut a = from.a;
-    let mut b = from.b;
-    let mut c = from.c;
-    let mut d = from.d;
-    let mut gone: usize = 0;
-    while gone < rounds {
-        a = halve(la, Layout::Compressed, x.a, a);
-        b = halve(lb, Layout::Compressed, x.b, b);
-        c = halve(lc, Layout::Compressed, x.c, c);
-        d = halve(ld, Layout::Compressed, x.d, d);
-        gone += 1;
-    }
-    Rests { a, b, c, d }
+    p
 }
 
 // The search on its way again.
-fn going_on(p: Rest, rounds: usize) -> Going
+fn going_on(p: Rest, rounds: u32) -> Going
     requires { p.lo + p.len < 18446744073709551616 }
     ensures { result ≡ going (span_of p) p.len rounds }
 {
-    let lo = p.lo;
-    let len = p.len;
+    let Rest { lo, len } = p;
     Going {
         left: Span {
             lo,
@@ -203,85 +118,61 @@ fn going_on(p: Rest, rounds: usize) -> Going
             mid: lo + len / 2,
         },
         width: len,
-        probes: rounds,
+        probes: rounds as usize,
     }
 }
 
 // Where it ends, with at most one entry left.
-fn ended(list: &[u8], layout: Layout, n: usize, x: u32, p: Rest, rounds: usize) -> Spot
-    requires { Ending layout list.now x n p rounds }
-    ensures { result ≡ search_of list.now layout x }
+#[tactic(auto, using(crate::proofs::Turns::counted_inside, crate::proofs::Turns::searched))]
+fn ended<E: Entry>(list: &[u8], n: usize, x: u32, p: Rest, rounds: u32) -> Spot
+    requires { Ending E.layout list.now x n p rounds }
+    ensures { result ≡ search_of list.now E.layout x }
 {
-    last(list, layout, n, x, going_on(p, rounds))
+    last::<E>(list, n, x, going_on(p, rounds))
 }
 
-// A search with no others beside it.
-fn alone(layout: Layout, list: &[u8], x: u32) -> Spot
-    ensures { result ≡ search_of list.now layout x }
+// Side by side, where each can be halved so often.
+fn abreast<E: Entry>(lists: Four<&[u8]>, x: Four<u32>, n: Four<usize>, rounds: u32) -> Four<Spot>
+    requires { (n ≡ counts_of E.layout (lists_of lists)) × Alike rounds n }
+    ensures { result ≡ spots_in E.layout lists.entry.a.now lists.entry.b.now lists.entry.c.now lists.entry.d.now x }
 {
-    let n = count_of(list, layout);
-    let g = by_two(list, layout, n, x, all_of(n), n, 0);
-    let h = by_one(list, layout, n, x, g);
-    last(list, layout, n, x, h)
+    let p = down::<E>(lists, x, n, rounds);
+    lists
+        .zip(x)
+        .zip(n)
+        .zip(p)
+        .map(|(((list, x), n), p)| ended::<E>(list, n, x, p, rounds))
 }
 
-fn alone_all(layout: Layout, la: &[u8], lb: &[u8], lc: &[u8], ld: &[u8], x: Keys) -> Spots
-    ensures { result ≡ spots_in layout la.now lb.now lc.now ld.now x }
+// Each search with no others beside it.
+fn alone<E: Entry>(lists: Four<&[u8]>, x: Four<u32>) -> Four<Spot>
+    ensures { result ≡ spots_in E.layout lists.entry.a.now lists.entry.b.now lists.entry.c.now lists.entry.d.now x }
 {
-    Spots {
-        a: alone(layout, la, x.a),
-        b: alone(layout, lb, x.b),
-        c: alone(layout, lc, x.c),
-        d: alone(layout, ld, x.d),
-    }
+    lists.zip(x).map(|(list, x)| crate::search::<E>(list, x))
 }
 
 // In one list, so that all four come to their last round at once.
-pub fn search_pages(list: &[u8], x: Keys) -> Spots
-    ensures { result ≡ spots_in Layout.Pages list.now list.now list.now list.now x }
+pub fn search_in<E: Entry>(list: &[u8], x: Four<u32>) -> Four<Spot>
+    ensures { result ≡ spots_in E.layout list.now list.now list.now list.now x }
 {
-    let n = count_all(Layout::Pages, list, list, list, list);
-    let rounds = halvings(n.a);
-    let p = down_pages(list, list, list, list, x, n, rounds);
-    Spots {
-        a: ended(list, Layout::Pages, n.a, x.a, p.a, rounds),
-        b: ended(list, Layout::Pages, n.b, x.b, p.b, rounds),
-        c: ended(list, Layout::Pages, n.c, x.c, p.c, rounds),
-        d: ended(list, Layout::Pages, n.d, x.d, p.d, rounds),
-    }
+    let lists = Four {
+        a: list,
+        b: list,
+        c: list,
+        d: list,
+    };
+    let n = count_all::<E>(lists);
+    abreast::<E>(lists, x, n, halvings(n.a))
 }
 
 // Each in its own list. Where these can be halved so often and so often, each is searched alone.
-pub fn search_regular(la: &[u8], lb: &[u8], lc: &[u8], ld: &[u8], x: Keys) -> Spots
-    ensures { result ≡ spots_in Layout.Regular la.now lb.now lc.now ld.now x }
+pub fn search<E: Entry>(lists: Four<&[u8]>, x: Four<u32>) -> Four<Spot>
+    ensures { result ≡ spots_in E.layout lists.entry.a.now lists.entry.b.now lists.entry.c.now lists.entry.d.now x }
 {
-    let n = count_all(Layout::Regular, la, lb, lc, ld);
+    let n = count_all::<E>(lists);
     let rounds = halvings(fewest(n));
     if rounds != halvings(most(n)) {
-        return alone_all(Layout::Regular, la, lb, lc, ld, x);
+        return alone::<E>(lists, x);
     }
-    let p = down_regular(la, lb, lc, ld, x, n, rounds);
-    Spots {
-        a: ended(la, Layout::Regular, n.a, x.a, p.a, rounds),
-        b: ended(lb, Layout::Regular, n.b, x.b, p.b, rounds),
-        c: ended(lc, Layout::Regular, n.c, x.c, p.c, rounds),
-        d: ended(ld, Layout::Regular, n.d, x.d, p.d, rounds),
-    }
-}
-
-pub fn search_compressed(la: &[u8], lb: &[u8], lc: &[u8], ld: &[u8], x: Keys) -> Spots
-    ensures { result ≡ spots_in Layout.Compressed la.now lb.now lc.now ld.now x }
-{
-    let n = count_all(Layout::Compressed, la, lb, lc, ld);
-    let rounds = halvings(fewest(n));
-    if rounds != halvings(most(n)) {
-        return alone_all(Layout::Compressed, la, lb, lc, ld, x);
-    }
-    let p = down_compressed(la, lb, lc, ld, x, n, rounds);
-    Spots {
-        a: ended(la, Layout::Compressed, n.a, x.a, p.a, rounds),
-        b: ended(lb, Layout::Compressed, n.b, x.b, p.b, rounds),
-        c: ended(lc, Layout::Compressed, n.c, x.c, p.c, rounds),
-        d: ended(ld, Layout::Compressed, n.d, x.d, p.d, rounds),
-    }
+    abreast::<E>(lists, x, n, rounds)
 }

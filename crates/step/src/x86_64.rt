@@ -1,61 +1,45 @@
 // Steps of x86_64.
 ghost use Rattle.std.specs.Prelude.{◌≡◌};
-ghost use Rattle.step.specs.StepsX86.{step_of, regs_told, step_told};
 
-use crate::slots::{choose_anchor, step_slots};
-use rules::Outcome;
-use rules::x86_64::RuleX86_64;
+use crate::Registers;
+use crate::window::{Window64, choose_anchor};
+use rules::{Refusal, Rule, RuleX86_64};
 
 // saved: rbx, r12, r13, r14, r15, rbp.
 #[repr(C)]
-#[derive(Clone, Copy)]
+#[derive(Clone, Copy, Debug, PartialEq, Eq)]
 pub struct RegistersX86_64 {
     pub rip: u64,
     pub rsp: u64,
     pub saved: [u64; 6],
 }
 
-// The caller's registers; where the step is refused, the registers as they were.
-#[derive(Clone, Copy)]
-pub struct SteppedX86_64 {
-    pub outcome: Outcome,
-    pub registers: RegistersX86_64,
-}
+impl Registers for RegistersX86_64 {
+    ghost use Rattle.step.specs.StepsX86.{step_of, regs_told};
+    ghost use Rattle.step.specs.Refused.{unchanged-x86-64};
 
-pub fn step(opcode: u32, registers: RegistersX86_64, base: u64, window: &[u8]) -> SteppedX86_64
-    ensures { step_told result ≡ step_of opcode base window.now (regs_told registers) }
-{
-    let rule = RuleX86_64::parse(opcode);
-    let ruled = rule.outcome;
-    let Outcome::Answered = ruled else {
-        return SteppedX86_64 {
-            outcome: ruled,
-            registers,
-        };
-    };
-    let cfa_register = rule.cfa_register;
-    let below = rule.below;
-    let mut saved = registers.saved;
-    let anchor = choose_anchor(cfa_register, registers.rsp, saved[5]);
-    let landed = step_slots(
-        8,
-        0xffff_ffff_ffff_ffff,
-        base,
-        window,
-        anchor,
-        rule.cfa_distance,
-        &below,
-        registers.rip,
-        registers.rsp,
-        &mut saved,
-    );
-    let outcome = landed.outcome;
-    SteppedX86_64 {
-        outcome,
-        registers: RegistersX86_64 {
-            rip: landed.pc,
-            rsp: landed.sp,
-            saved,
-        },
+    ghost told = { regs_told };
+
+    ghost step_of = { step_of };
+
+    ghost unchanged = { unchanged-x86-64 };
+
+    fn step(&mut self, opcode: u32, base: u64, window: &[u8]) -> Result<(), Refusal> {
+        // For speed the answer is taken apart: else the rule would be copied.
+        let Rule {
+            cfa_register,
+            cfa_distance,
+            below,
+        } = RuleX86_64::parse(opcode)?;
+        let anchor = choose_anchor(cfa_register, self.rsp, self.saved[5]);
+        let landed = Window64::new(base, window).step(
+            anchor,
+            cfa_distance,
+            &below,
+            &mut self.saved,
+        )?;
+        self.rip = landed.pc;
+        self.rsp = landed.sp;
+        Ok(())
     }
 }

@@ -3,7 +3,6 @@
 
 ghost use Rattle.std.specs.Prelude.{◌≤◌, length, IfOk};
 
-use reader::part;
 use std::io;
 use std::io::{Cursor, Read, Write};
 
@@ -14,11 +13,10 @@ pub fn read_full(input: &mut impl Read, buffer: &mut [u8]) -> io::Result<usize>
 {
     let mut done = 0;
     while done < buffer.len() {
-        let n = input.read(&mut buffer[done..])?;
-        if n == 0 {
-            break;
+        match input.read(&mut buffer[done..])? {
+            0 => break,
+            n => done += n,
         }
-        done += n;
     }
     Ok(done)
 }
@@ -28,11 +26,10 @@ pub fn read_full(input: &mut impl Read, buffer: &mut [u8]) -> io::Result<usize>
 pub fn say(rt: &impl Eprint, what: &str, error: &io::Error) {
     let mut told = Cursor::new([0u8; 256]);
     let _ = write!(told, "{error}");
-    let n = told.position() as usize;
-    let text = str::from_utf8(part(told.get_ref(), 0, n)).unwrap_or("");
-    let why = match text.split_once(" (os error ") {
-        Some((before, _)) => before,
-        None => text,
-    };
+    let n = told.position().min(256) as usize;
+    let text = str::from_utf8(&told.get_ref()[..n]).unwrap_or("");
+    let why = text
+        .split_once(" (os error ")
+        .map_or(text, |(before, _)| before);
     let _ = eprintln!(rt; "{what}: {why}");
 }

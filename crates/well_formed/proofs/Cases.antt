@@ -1,87 +1,94 @@
 -- What the checker's code knows at each return, on plain values.
 -- Assumes nothing.
-use Prim.Native.Nat.{ℕ, ◌+◌, ◌≤◌, ◌<◌}
+use Prim.Native.Nat.{ℕ, suc, ◌<◌, zero-le}
 use mathlib.Core.Path.{◌≡◌, refl, ap, sym, ◌∙◌}
 use mathlib.Core.Bool.{Bool, true, false, ◌&&◌}
 use mathlib.Core.List.{List}
-use native.Mathlib.Numerals.{add-one}
+use native.Mathlib.Nat.{zero-add}
 use native.Mathlib.Omega.{arith}
 use lib.Dec.{eqb}
-use lib.ListN.{drop}
+use lib.ListN.{length, get_or}
+use Rattle.std.specs.Prelude.{Result, Ok, Err, MatchBool, MatchResult}
+use Rattle.std.specs.List.{range_with_len, AllWithin, HoldsAt}
+use Rattle.std.proofs.lemmas.List.FromFn.{length-range_with_len, get_or-range_with_len}
 use Rattle.raw.specs.declared.Lists.{Lists}
 use Rattle.raw.specs.declared.Page.{Page}
-use Rattle.raw.specs.declared.PageEntry.{PageEntry}
-use Rattle.raw.specs.declared.Opened.{Opened}
-use Rattle.raw.specs.declared.Parsed.{Parsed}
 use Rattle.raw.specs.declared.Error.{Error}
-use Rattle.raw.specs.Checked.{Checked, good, refused, number_of}
-use Rattle.raw.specs.Raw.{parse_of, globals_of, pages_of, entry_of, open_of, lists_told, page_told}
-use Rattle.raw.proofs.Grants.{where-whole, where-refused}
-use Rattle.entries.specs.declared.Function.{Function}
-use Rattle.entries.specs.declared.Answer.{Answer}
-use Rattle.entries.specs.declared.Place.{Place}
-use Rattle.entries.specs.Entries.{function_told}
-use Rattle.entries.specs.Section.{page_at, opened_at}
+use Rattle.raw.specs.Checked.{Checked, good, refused, either, number_of}
+use Rattle.raw.specs.declared.section.Section.{Section}
+use Rattle.raw.specs.Section.{Standing, standing, section_told}
+use Rattle.reader.specs.Reader.{Slice, slice_told}
+use Rattle.raw.specs.Raw.{globals_of, pages_of, first_in}
+use Rattle.entries.specs.declared.PageAt.{PageAt}
+use Rattle.entries.specs.Section.{first_of, page_at, opened_at, place_at}
 use Rattle.entries.specs.Placed.{read_of}
-use Rattle.entries.proofs.Places.{first-is, next-is, offset-is, opens-there}
-use Rattle.well_formed.specs.WellFormed.{all, good_opened, good_page, good_pages, well_formed, given, good_read}
-use Rattle.well_formed.proofs.Functions.{all-each, opened}
+use Rattle.iterate.specs.Opened.{Opened, opens, opened_told}
+use Rattle.iterate.proofs.Opened.{is-refused, is-opened, its-page}
+use Rattle.well_formed.specs.WellFormed.{all, good_page, good_pages, given, good_read}
+use Rattle.well_formed.proofs.Functions.{all-each, each_all, opened}
 
--- a loop over `all`, as it starts, goes on, stops and ends
-module _ (f : ℕ → Bool) where
-  pub starts : all 0 f ≡ true
-  unfolding all
-  starts = refl
+-- a test of each number below n is the test of all
+abbrev numbers : ℕ → List ℕ
+numbers n = range_with_len 0 n
 
-  pub goes_on : (i : ℕ) → all i f ≡ true → f i ≡ true → all (i + 1) f ≡ true
-  unfolding all
-  goes_on i e t = simp (add-one, t) e
+number-is : (n i : ℕ) → i < n → get_or (numbers n) i 0 ≡ i
+number-is n i h = get_or-range_with_len 0 n i 0 h ∙ zero-add i
 
-  pub stops : (n i : ℕ) → i < n → f i ≡ false → false ≡ all n f
-  stops n i h t = by (all n f) refl
-    where
-      by : (b : Bool) → all n f ≡ b → false ≡ b
-      by false e = refl
-      by true e = sym t ∙ all-each n f e i h
+pub every : (n : ℕ) (f : ℕ → Bool) (b : Bool)
+    → MatchBool b (AllWithin (λ x. f x ≡ true) (numbers n) 0 (length (numbers n))) ((k : ℕ) × (k < length (numbers n)) × HoldsAt (λ x. f x ≡ false) (numbers n) k) → b ≡ all n f
+every n f true h = sym (each_all n f (λ i k. rw (number-is n i k) at (h i 0 zero-le (omega (arith, length-range_with_len 0 n)))))
+every n f false h = by (all n f) refl
+  where
+    below : h.0 < n
+    below = omega (arith, length-range_with_len 0 n, h.1)
 
-  pub ends : (n i : ℕ) → i ≤ n → n ≤ i → all i f ≡ true → true ≡ all n f
-  ends n i h k e =
-      let same : n ≡ i = omega arith in
-      rw same (sym e)
+    by : (b : Bool) → all n f ≡ b → false ≡ b
+    by false e = refl
+    by true e = sym (rw (number-is n h.0 below) at (h.2 0)) ∙ all-each n f e h.0 below
 
--- a function that was given or not, and a page that opened, by its first function
-pub is-told : (test : ℕ → ℕ → Bool) (w v : Answer) (x : Checked Function) → function_told w ≡ x → w ≡ v → given test (function_told v) ≡ given test x
-is-told test w v x e p = ap (given test) (ap function_told (sym p) ∙ e)
+-- a page's first function starts at the address
+abbrev begins : Opened → ℕ → Bool
+begins o first = given (λ x y. eqb x first) (read_of o.section.bytes o.globals.bytes o.place 0)
 
-module _ (s globals : List ℕ) (q : Place) (first : ℕ) (o : open_of s q.offset first ≡ good q.page) (small : q.next < 4294967296) where
-  pub by_first : (w v : Answer) → function_told w ≡ read_of s globals q 0 → w ≡ v → (b : Bool) → given (λ x y. eqb x first) (function_told v) ≡ b
-      → (b && all q.page.functions_len (good_read s globals q)) ≡ good_opened globals (drop q.offset s) q.page first q.next
-  by_first w v e p b t = ap (λ (x : Bool). x && all q.page.functions_len (good_read s globals q)) (sym t ∙ is-told (λ x y. eqb x first) w v _ e p) ∙ opened s globals q first o small
+abbrev all_good : Opened → Bool
+all_good o = all o.place.page.functions_len (good_read o.section.bytes o.globals.bytes o.place)
 
 -- page p
-module _ (s : List ℕ) (l : Lists) (p : ℕ) (pages : List ℕ) (ep : pages ≡ pages_of s l) (entry : PageEntry) (ee : entry ≡ entry_of pages p) (w : Opened) (e : page_told w ≡ open_of s entry.offset entry.first) where
-  opening : page_told w ≡ opened_at s l p
-  opening = opens-there s l p pages ep entry ee (page_told w) e
+module _ (z : Slice) (l : Lists) (p : ℕ) (w : Result PageAt Error) (e : opened_told w ≡ opens z l p) where
+  abbrev s : List ℕ
+  s = z.bytes
 
-  pub page-refused : (k : Error) → w ≡ Opened.Refused k → false ≡ good_page s l p
+  pub page-refused : (k : Error) → w ≡ Err k → false ≡ good_page s l p
   unfolding good_page
   page-refused k q =
-      let r : opened_at s l p ≡ refused (number_of k) = sym opening ∙ ap page_told q in
+      let r : opened_at s l p ≡ refused (number_of k) = is-refused z l p (number_of k) (ap opened_told (sym q) ∙ e) in
       simp r
 
-  module _ (pg : Page) (q : w ≡ Opened.Page pg) where
-    pub page-opens : (b : Bool) (globals : List ℕ) → globals ≡ globals_of s l → b ≡ good_opened globals (drop entry.offset s) pg entry.first entry.next → b ≡ good_page s l p
-    unfolding good_page page_at
-    page-opens b globals eg t =
-        let r : opened_at s l p ≡ good pg = sym opening ∙ ap page_told q in
-        t ∙ simp (r, eg, offset-is s l p pages ep entry ee, first-is s l p pages ep entry ee, next-is s l p pages ep entry ee)
+  module _ (x : PageAt) (q : w ≡ Ok x) where
+    abbrev page : Opened
+    page = record { section = slice_told x.section; globals = slice_told x.globals; place = x.place }
 
--- the section
-module _ (s : List ℕ) (w : Parsed) (e : lists_told w ≡ parse_of s) where
-  pub parses : (l : Lists) (b : Bool) → w ≡ Parsed.Whole l → b ≡ good_pages s l → b ≡ well_formed s
-  unfolding well_formed
-  parses l b q t = where-whole (λ k. false) (good_pages s) w (parse_of s) e l b q t
+    is : good page ≡ opens z l p
+    is = ap opened_told (sym q) ∙ e
 
-  pub parse-refused : (k : Error) → w ≡ Parsed.Refused k → false ≡ well_formed s
-  unfolding well_formed
-  parse-refused k q = where-refused (λ k. false) (good_pages s) w (parse_of s) e k false q refl
+    pub page-opens : x.place.next < 4294967296 → (pages : List ℕ) (first : ℕ) → pages ≡ pages_of s l → first ≡ first_in pages p
+        → (a b : Bool) → a ≡ begins page first → b ≡ all_good page → (a && b) ≡ good_page s l p
+    unfolding good_page page_at opened_at first_of
+    page-opens small pages first ep ef a b ea eb =
+        let pg : Page = x.place.page in
+        let there : opened_at s l p ≡ good pg = is-opened z l p page is in
+        let n : x.place.next ≡ first_of s l (suc p) = ap (λ (o : Opened). o.place.next) (its-page z l p page is) in
+        ap (λ (z : Bool). z && b) (ea ∙ ap (begins page) (ef ∙ ap (λ (z : List ℕ). first_in z p) ep)) ∙ ap (λ (z : Bool). begins page (first_of s l p) && z) eb
+        ∙ ap (λ (o : Opened). begins o (first_of s l p) && all_good o) (its-page z l p page is)
+        ∙ opened s (globals_of s l) (place_at s l p pg) (first_of s l p) there (rw n at small)
+        ∙ simp there
+
+-- the section, or what refused it
+pub section : (w : Result Section Error) (x : Slice) (g : Checked Lists) → section_told w ≡ standing x g → (b : Bool)
+    → MatchResult w (λ z. b ≡ good_pages z.bytes.now z.lists) (λ k. b ≡ false) → b ≡ either (λ k. false) (good_pages x.bytes) g
+section (Ok z) x (good l) e b h =
+    let same : ◌≡◌ {A = Standing} (record { bytes = slice_told z.bytes; lists = z.lists }) (record { bytes = x; lists = l }) = cc in
+    h ∙ ap (λ (o : Standing). good_pages o.bytes.bytes o.lists) same
+section (Ok z) x (refused k) e b h = absurd (let z : ◌≡◌ {A = ℕ} 0 1 = cc in omega arith)
+section (Err k) x (good l) e b h = absurd (let z : ◌≡◌ {A = ℕ} 0 1 = cc in omega arith)
+section (Err k) x (refused j) e b h = h

@@ -1,26 +1,27 @@
 -- `batch::lookup_batch` meets its contract: the answers that there is room for.
 -- Assumes nothing.
-use mathlib.Core.Path.{sym}
+use Prim.Native.Nat.{◌<◌, ◌^◌}
+use mathlib.Core.Path.{◌≡◌, ap, ◌∙◌}
+use borrow.Author.Rules.{rules}
 use native.Mathlib.Omega.{arith}
-use Rattle.lookup.specs.Lookup.{lookup_on}
-use Rattle.batch.proofs.Batches.{enough, standing-long, whole}
+use lib.ListN.{length, get_or, take, length-take}
+use Rattle.lookup.specs.Lookup.{probes_of, lookup_on}
+use Rattle.lookup.proofs.Probes.{few_on}
+use Rattle.batch.specs.Batch.{numbers_of, standing}
+use Rattle.batch.proofs.Batches.{one_on, whole}
 use Rattle.batch.proofs.lookup_batch.Goals as goal
 
-pub whole_fours-k-requires : goal.whole_fours-k-requires
-whole_fours-k-requires c =
-    let a = c.args in
-    enough (lookup_on a.s.now) a.addresses.now a.out.now _ c.fewer-n.ensures
+pub flat-requires : goal.flat-requires
+flat-requires c =
+    let room : length c.args.s.now < 2 ^ 64 = search rules in
+    omega (arith, ap probes_of c.lookup.ensures, few_on c.args.s.now room (get_or (take c.min-n.result c.args.addresses.now) c.loop-k.k 0))
 
-pub one_by_one-requires : goal.one_by_one-requires
-one_by_one-requires c =
-    let a = c.args in
-    let few = c.fewer-n.ensures in
-    let room = enough (lookup_on a.s.now) a.addresses.now a.out.now _ few in
-    let long = standing-long _ _ _ _ few _ _ c.whole_fours-k.ensures.0 c.whole_fours-k.ensures.1 in
-    (c.whole_fours-k.ensures.0, room.0, omega (arith, room.1, long))
+pub loop-k-preserved : goal.loop-k-preserved
+loop-k-preserved c =
+    let there : c.loop-k.k < c.min-n.result = c.loop-k-test.true in
+    one_on _ _ _ _ _ _ c.loop-k.invariant (omega (arith, length-take c.min-n.result c.args.addresses.now)) (omega arith) _ (c.flat.ensures ∙ ap numbers_of c.lookup.ensures) c.put.ensures
 
 pub returns : goal.returns
 returns c =
-    let few = c.fewer-n.ensures in
-    let long = standing-long _ _ _ _ few _ _ c.whole_fours-k.ensures.0 c.whole_fours-k.ensures.1 in
-    whole _ _ _ _ _ few (c.one_by_one.ensures c.args.out.now c.whole_fours-k.ensures.1 (sym long))
+    let end : c.loop-k.k ≡ c.min-n.result = omega (arith, length-take c.min-n.result c.args.addresses.now) in
+    whole _ _ _ _ _ c.min-n.ensures (c.loop-k.invariant ∙ ap (standing (lookup_on c.args.s.now) (take c.min-n.result c.args.addresses.now) c.args.out.now) end)

@@ -1,7 +1,7 @@
 -- `entries::inside` meets its contract: the part lies inside.
 -- Assumes nothing.
 use mathlib.Core.Path.{refl}
-use Rattle.entries.proofs.Placed.{part-inside}
+use Rattle.raw.proofs.Grants.{part-inside}
 use Rattle.entries.proofs.inside.Goals as goal
 
 pub returns : goal.returns

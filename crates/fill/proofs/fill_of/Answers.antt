@@ -1,64 +1,45 @@
 -- `fill::fill_of` meets its contract: page after page, until the room, the pages or the answers end.
 -- Assumes nothing.
-use borrow.Author.Rules.{rules}
+use Prim.Native.Nat.{◌+◌, ◌<◌}
 use mathlib.Core.Path.{ap, sym, ◌∙◌}
 use native.Mathlib.Omega.{arith}
-use Rattle.raw.specs.Raw.{page_told}
-use Rattle.entries.proofs.Places.{opens-there}
-use Rattle.reader.proofs.Laws.{bytes_of}
-use Rattle.fill.proofs.Turns as turns
+use Rattle.iterate.specs.declared.Cursor.{Cursor}
+use Rattle.iterate.proofs.Opened.{is-refused}
+use Rattle.iterate.specs.Opened.{opened_told}
+use Rattle.reader.specs.Reader.{slice_told}
 use Rattle.fill.proofs.Block as block
 use Rattle.fill.proofs.fill_of.Goals as goal
 
-pub loop-k-init : goal.loop-k-init
-loop-k-init c =
-    (search rules, search rules, bytes_of c.global_opcodes-globals.ensures, bytes_of c.pages-list.ensures, block.sets-out _ _ _ _)
-
-pub shape_of-out-then-p-pages : goal.shape_of-out-then-p-pages
-shape_of-out-then-p-pages c = block.same_length c.loop-k.invariant.4
-
-pub returns-then-p-pages : goal.returns-then-p-pages
-returns-then-p-pages c =
+pub returns-then-out-eq0 : goal.returns-then-out-eq0
+returns-then-out-eq0 c =
     block.told_is c.stopped.ensures
-    ∙ block.stops c.loop-k.invariant.4 (block.at_last _ _ _ _ _ _ (omega (arith, c.loop-k-test.true)) c.if-p-pages.true c.end_cursor-last.ensures)
+    ∙ block.stops (block.sets-out _ _ _ _) (block.no_room _ _ _ _ (omega (arith, c.if-out-eq0.true)))
 
-pub shape_of-out-in-Refused : goal.shape_of-out-in-Refused
-shape_of-out-in-Refused c = block.same_length c.loop-k.invariant.4
+pub loop-p-init : goal.loop-p-init
+loop-p-init c = (omega (arith, c.if-out-eq0.false), block.sets-out _ _ _ _)
 
-pub returns-in-Refused : goal.returns-in-Refused
-returns-in-Refused c =
-    let inv = c.loop-k.invariant in
-    let opened = opens-there _ _ _ _ inv.3 _ c.page_entry-e.ensures _ c.open_page.ensures in
-    block.told_is c.stopped-in-Refused.ensures
-    ∙ block.stops inv.4 (block.page-no _ _ _ _ _ _ (omega (arith, c.loop-k-test.true)) c.if-p-pages.false (sym opened ∙ ap page_told c.in-Refused.is))
+pub returns-in-Err : goal.returns-in-Err
+returns-in-Err c =
+    let last = ap (λ (d : Cursor). d.page) c.end_cursor-last.ensures in
+    block.told_is c.stopped-in-Err.ensures
+    ∙ block.stops c.loop-p.invariant.1 (block.page-no _ _ _ _ _ _ (omega (arith, c.loop-p.invariant.0)) (omega arith) (is-refused _ _ _ _ (ap opened_told (sym c.in-Err.is) ∙ c.open_at.ensures)))
 
-pub fill_page-r-requires : goal.fill_page-r-requires
-fill_page-r-requires c = omega (arith, c.loop-k-test.true, block.same_length c.loop-k.invariant.4)
-
-pub overflow_cast-i : goal.overflow_cast-i
-overflow_cast-i c = omega (arith, c.fill_page-r.ensures.index)
-
-pub overflow_add-p-in-End : goal.overflow_add-p-in-End
-overflow_add-p-in-End c = omega (arith, c.if-p-pages.false, c.loop-k.invariant.0)
-
-pub loop-k-preserved : goal.loop-k-preserved
-loop-k-preserved c =
-    let inv = c.loop-k.invariant in
-    (inv.0, omega (arith, c.if-p-pages.false, inv.0), inv.2, inv.3, block.page-ends inv.4 c.if-p-pages.false inv.2 inv.3 c.page_entry-e.ensures c.open_page.ensures c.in-Page.is c.fill_page-r.ensures c.in-End.is)
-
-pub shape_of-out-in_default : goal.shape_of-out-in_default
-shape_of-out-in_default c = turns.same_length c.fill_page-r.ensures.wrote ∙ block.same_length c.loop-k.invariant.4
+pub loop-p-preserved : goal.loop-p-preserved
+loop-p-preserved c =
+    let last = ap (λ (d : Cursor). d.page) c.end_cursor-last.ensures in
+    let z = slice_told c.args.section.bytes in
+    let inv = c.loop-p.invariant.1 in
+    let h : c.loop-p.p + 1 < c.args.section.lists.pages_len = omega arith in
+    (block.page-room z inv h c.open_at.ensures c.in-Ok.is c.fill_page-paged.ensures c.in-End.is, block.page-ends z inv h c.open_at.ensures c.in-Ok.is c.fill_page-paged.ensures c.in-End.is)
 
 pub returns-in_default : goal.returns-in_default
 returns-in_default c =
-    let inv = c.loop-k.invariant in
+    let last = ap (λ (d : Cursor). d.page) c.end_cursor-last.ensures in
     block.told_is c.stopped-in_default.ensures
-    ∙ block.page-stops inv.4 c.if-p-pages.false inv.2 inv.3 c.page_entry-e.ensures c.open_page.ensures c.in-Page.is c.fill_page-r.ensures c.in_default.not-End
-
-pub shape_of-out : goal.shape_of-out
-shape_of-out c = block.same_length c.loop-k.invariant.4
+    ∙ block.page-stops (slice_told c.args.section.bytes) c.loop-p.invariant.1 (omega arith) c.open_at.ensures c.in-Ok.is c.fill_page-paged.ensures c.in_default.not-End
 
 pub returns : goal.returns
 returns c =
+    let last = ap (λ (d : Cursor). d.page) c.end_cursor-last.ensures in
     block.told_is c.stopped-2.ensures
-    ∙ block.stops c.loop-k.invariant.4 (block.no_room _ _ _ _ (omega (arith, c.loop-k-test.false)))
+    ∙ block.stops c.loop-p.invariant.1 (block.at_last _ _ _ _ _ _ (omega (arith, c.loop-p.invariant.0)) (omega arith) c.end_cursor-last.ensures)

@@ -1,29 +1,29 @@
 -- `iterate::next_of` meets its contract: each turn tells what the cursor asked for tells, from where it stands.
 -- Assumes nothing.
-use borrow.Author.Rules.{rules}
-use mathlib.Core.Path.{refl, ap, sym, ◌∙◌}
+use mathlib.Core.Path.{ap, ◌∙◌}
 use native.Mathlib.Omega.{arith}
-use Rattle.raw.specs.Raw.{page_told}
-use Rattle.iterate.proofs.Loop.{stops-at-end, stops-refused, stops-answered, goes_on}
+use Rattle.iterate.specs.declared.Cursor.{Cursor}
+use Rattle.reader.specs.Reader.{slice_told}
+use Rattle.iterate.proofs.Loop.{stops-at-end, stops-refused, stops-answered, goes_on, in-step}
 use Rattle.iterate.proofs.next_of.Goals as goal
 
-pub loop-p-init : goal.loop-p-init
-loop-p-init c = (search rules, refl)
+pub returns-in-Err : goal.returns-in-Err
+returns-in-Err c =
+    let last = ap (λ (d : Cursor). d.page) c.end_cursor-last.ensures in
+    stops-refused (slice_told c.args.section.bytes) _ _ _ _ c.loop-p.invariant (omega arith) _ c.open_at.ensures _ c.in-Err.is
 
-pub returns-in-Refused : goal.returns-in-Refused
-returns-in-Refused c =
-    stops-refused _ _ _ _ _ c.loop-p.invariant.1 (omega (arith, c.loop-p-test.true)) _ c.open_at.ensures _ c.in-Refused.is
-
-pub function_at-a-requires : goal.function_at-a-requires
-function_at-a-requires c = (sym c.open_at.ensures ∙ ap page_told c.in-Page.is, c.if-i-count.true)
-
-pub returns-then-i-count : goal.returns-then-i-count
-returns-then-i-count c =
-    stops-answered _ _ _ _ _ c.loop-p.invariant.1 c.loop-p-test.true _ c.open_at.ensures _ c.in-Page.is _ _ c.if-i-count.true c.function_at-a.ensures c.answered.ensures
+pub returns-then-i-page : goal.returns-then-i-page
+returns-then-i-page c =
+    let last = ap (λ (d : Cursor). d.page) c.end_cursor-last.ensures in
+    in-step _ _ _ c.map.ensures.cases
+    ∙ stops-answered (slice_told c.args.section.bytes) _ _ _ _ c.loop-p.invariant (omega arith) _ c.open_at.ensures _ c.in-Ok.is _ c.if-i-page.true c.function.ensures
 
 pub loop-p-preserved : goal.loop-p-preserved
 loop-p-preserved c =
-    (omega arith, goes_on _ _ _ _ _ c.loop-p.invariant.1 c.loop-p-test.true _ c.open_at.ensures _ c.in-Page.is c.if-i-count.false _ (omega arith))
+    let last = ap (λ (d : Cursor). d.page) c.end_cursor-last.ensures in
+    goes_on (slice_told c.args.section.bytes) _ _ _ _ c.loop-p.invariant (omega arith) _ c.open_at.ensures _ c.in-Ok.is c.if-i-page.false _ (omega arith)
 
 pub returns : goal.returns
-returns c = stops-at-end _ _ _ _ _ c.loop-p.invariant.1 _ c.loop-p-test.false c.end_cursor-next.ensures
+returns c =
+    let last = ap (λ (d : Cursor). d.page) c.end_cursor-last.ensures in
+    stops-at-end (slice_told c.args.section.bytes) _ _ _ _ c.loop-p.invariant _ (omega arith) c.end_cursor-last.ensures

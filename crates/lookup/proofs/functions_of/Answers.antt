@@ -1,17 +1,15 @@
--- `lookup::functions_of` meets its contract: the part that the page names, by its kind.
+-- `lookup::functions_of` meets its contract: the part that the page names, by its layout.
 -- Assumes nothing.
-use Rattle.raw.specs.declared.Kind.{Kind}
+use mathlib.Core.Path.{◌∙◌}
+use native.Mathlib.Omega.{arith}
+use Rattle.reader.proofs.Laws.{lies-inside}
 use Rattle.lookup.proofs.Straight.{kind-inside, kind-list}
 use Rattle.lookup.proofs.functions_of.Goals as goal
 
-pub inside-requires : goal.inside-requires
-inside-requires c = kind-inside _ c.args.q Kind.Regular c.in-Regular.is c.requires
+pub slice_bounds-result-end : goal.slice_bounds-result-end
+slice_bounds-result-end g c =
+    let h = kind-inside _ c.args.at.place _ c.requires.1 _ (c.SIZE.ensures ∙ g.met.E.Entry.sized) c.requires.0 in
+    omega (arith, h)
 
-pub inside-requires-in-Compressed : goal.inside-requires-in-Compressed
-inside-requires-in-Compressed c = kind-inside _ c.args.q Kind.Compressed c.in-Compressed.is c.requires
-
-pub returns-in-Regular : goal.returns-in-Regular
-returns-in-Regular c = kind-list _ c.args.q Kind.Regular c.in-Regular.is _ c.inside.ensures
-
-pub returns-in-Compressed : goal.returns-in-Compressed
-returns-in-Compressed c = kind-list _ c.args.q Kind.Compressed c.in-Compressed.is _ c.inside-in-Compressed.ensures
+pub returns : goal.returns
+returns g c = kind-list _ c.args.at.place _ c.requires.1 _ (c.SIZE.ensures ∙ g.met.E.Entry.sized) _ (lies-inside _ _ _)

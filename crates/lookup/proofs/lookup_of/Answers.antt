@@ -1,33 +1,30 @@
 -- `lookup::lookup_of` meets its contract: nothing before the first page or from the last on, else what the page gives.
 -- Assumes nothing.
-use Rattle.lookup.proofs.Straight.{pages-inside}
+use Rattle.reader.proofs.Laws.{bytes_of}
 use Rattle.lookup.proofs.Cases.{within, few, few-pages, looks-before, looks-past, looks-in}
 use Rattle.raw.specs.Raw.{pages_of}
 use native.Mathlib.Omega.{arith}
 use borrow.Author.Rules.{rules}
 use Rattle.lookup.proofs.lookup_of.Goals as goal
 
-pub inside-pages-requires : goal.inside-pages-requires
-inside-pages-requires c = pages-inside _ _ c.requires
-
 pub returns-then-at-eq0 : goal.returns-then-at-eq0
 unfolding pages_of
-returns-then-at-eq0 c = looks-before _ _ _ c.inside-pages.ensures _ _ c.search_pages-spot.ensures c.if-at-eq0.true
+returns-then-at-eq0 c = looks-before _ _ _ (bytes_of c.pages-pages.ensures) _ _ c.search-spot.ensures c.if-at-eq0.true
 
 pub returns-then-at-n : goal.returns-then-at-n
 unfolding pages_of
-returns-then-at-n c = looks-past _ _ _ c.inside-pages.ensures _ _ c.search_pages-spot.ensures c.if-at-eq0.false (omega arith)
+returns-then-at-n c = looks-past _ _ _ (bytes_of c.pages-pages.ensures) _ _ c.search-spot.ensures c.if-at-eq0.false (omega arith)
 
 pub overflow_cast-at : goal.overflow_cast-at
 unfolding pages_of
-overflow_cast-at c = omega (arith, within _ _ _ _ _ c.search_pages-spot.ensures (few-pages _ c.args.lists _ c.inside-pages.ensures))
+overflow_cast-at c = omega (arith, within _ _ _ _ _ c.search-spot.ensures (few-pages _ c.args.section.lists _ (bytes_of c.pages-pages.ensures)))
 
 pub at_page-requires : goal.at_page-requires
 unfolding pages_of
 at_page-requires c =
-    let h = few-pages _ c.args.lists _ c.inside-pages.ensures in
-    (c.inside-pages.ensures, c.requires, omega (arith, within _ _ _ _ _ c.search_pages-spot.ensures h, c.if-at-n.false, c.if-at-eq0.false), omega (arith, few _ _ _ _ _ c.search_pages-spot.ensures h (search rules)))
+    let h = few-pages _ c.args.section.lists _ (bytes_of c.pages-pages.ensures) in
+    (bytes_of c.pages-pages.ensures, omega (arith, within _ _ _ _ _ c.search-spot.ensures h, c.if-at-n.false, c.if-at-eq0.false), omega (arith, few _ _ _ _ _ c.search-spot.ensures h (search rules)))
 
 pub returns : goal.returns
 unfolding pages_of
-returns c = looks-in _ _ _ c.inside-pages.ensures _ _ c.search_pages-spot.ensures _ c.if-at-eq0.false c.if-at-n.false c.at_page.ensures
+returns c = looks-in _ _ _ (bytes_of c.pages-pages.ensures) _ _ c.search-spot.ensures _ c.if-at-eq0.false c.if-at-n.false c.at_page.ensures

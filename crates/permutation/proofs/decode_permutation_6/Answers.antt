@@ -33,7 +33,7 @@ module _ (n e s : ℕ) (h : n ≤ 6) (es : s ≡ apart_of n) where
       ∙ sym (decode-accepts n e (below-accepted n e (accepts-by-row n e h ∙ lt-ltb (e * apart_of n) 720 (subst (λ (k : ℕ). e * k < 720) es l))))
 
 pub returns-then-count-gt6 : goal.returns-then-count-gt6
-returns-then-count-gt6 c = c.refused.ensures ∙ sym (decode-refuses _ _ (accepts-no-count _ _ c.if-count-gt6.true))
+returns-then-count-gt6 c = sym (decode-refuses _ _ (accepts-no-count _ _ c.if-count-gt6.true))
 
 pub overflow_mul-at : goal.overflow_mul-at
 overflow_mul-at c =
@@ -43,7 +43,7 @@ overflow_mul-at c =
 pub returns-then-at-ge720 : goal.returns-then-at-ge720
 returns-then-at-ge720 c =
     let a = c.args in
-    c.refused-then-at-ge720.ensures ∙ past a.count a.encoding c.apart.result (omega arith) c.apart.ensures (omega arith)
+    past a.count a.encoding c.apart.result (omega arith) c.apart.ensures (omega arith)
 
 pub returns : goal.returns
 returns c =

@@ -5,4 +5,4 @@ use Rattle.raw.proofs.page_offset.Goals as goal
 
 pub returns : goal.returns
 unfolding offset_in
-returns c = c.u32_or_0.ensures
+returns c = c.read_or_0.ensures

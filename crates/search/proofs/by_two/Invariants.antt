@@ -5,7 +5,7 @@ use Rattle.search.specs.Steps.{going, OnWay}
 use Rattle.search.proofs.by_two.Given as goal
 
 abbrev pub invariant-loop-width : goal.invariant-loop-width
-invariant-loop-width l = OnWay (key_of l.list l.layout) l.x l.n (going l.left l.width l.probes)
+invariant-loop-width g l = OnWay (key_of l.list g.E.Entry.layout) l.x l.n (going l.left l.width l.probes)
 
 abbrev pub decreases-loop-width : goal.decreases-loop-width
-decreases-loop-width l = l.width
+decreases-loop-width g l = l.width

@@ -1,28 +1,19 @@
--- `well_formed::are_good_pages` meets its contract: all pages before p are good.
+-- `well_formed::are_good_pages` meets its contract: a test of each page but the last is the test of all.
 -- Assumes nothing.
-use Prim.Native.Nat.{zero-le}
-use mathlib.Core.Path.{sym, ◌∙◌}
+use mathlib.Core.Bool.{true, false}
+use mathlib.Core.Path.{◌≡◌, ap}
 use native.Mathlib.Omega.{arith}
-use Rattle.well_formed.specs.WellFormed.{good_pages}
-use Rattle.well_formed.proofs.Cases.{starts, goes_on, stops, ends}
+use Rattle.std.proofs.Common.{rules, tests}
+use Rattle.std.proofs.lemmas.Iterator.{cases_from_all, YieldsList-from_range}
+use Rattle.std.specs.Prelude.{ℕ, ◌-◌}
+use Rattle.well_formed.specs.WellFormed.{good_page, good_pages}
+use Rattle.well_formed.proofs.Cases.{every}
 use Rattle.well_formed.proofs.are_good_pages.Goals as goal
-
-pub loop-p-init : goal.loop-p-init
-loop-p-init c = (zero-le, starts _)
-
-pub returns-then-not-is_good_page : goal.returns-then-not-is_good_page
-unfolding good_pages
-returns-then-not-is_good_page c = stops _ _ _ (omega (arith, c.loop-p-test.true)) (sym c.is_good_page.ensures ∙ c.if-not-is_good_page.true)
-
-pub overflow_add-p-in-loop-p : goal.overflow_add-p-in-loop-p
-overflow_add-p-in-loop-p c = omega arith
-
-pub loop-p-smaller : goal.loop-p-smaller
-loop-p-smaller c = omega arith
-
-pub loop-p-preserved : goal.loop-p-preserved
-loop-p-preserved c = (omega arith, goes_on _ _ c.loop-p.invariant.1 (sym c.is_good_page.ensures ∙ c.if-not-is_good_page.false))
 
 pub returns : goal.returns
 unfolding good_pages
-returns c = ends _ _ _ c.loop-p.invariant.0 (omega (arith, c.loop-p-test.false)) c.loop-p.invariant.1
+returns c =
+    let f = good_page c.args.section.bytes.now c.args.section.lists in
+    let n : ℕ = c.args.section.lists.pages_len - 1 in
+    every n f _
+    (cases_from_all _ _ _ (λ x. f x ≡ true) (λ x. f x ≡ false) c.all.ensures.ran (YieldsList-from_range 0 _ n (ap (λ (b : ℕ). record { start = 0; end = b }) c.saturating_sub.ensures) (omega arith)) (λ x q k. search (rules, tests)) (λ x q k. search (rules, tests)))

@@ -1,16 +1,15 @@
--- `batch::four::put_lookup` meets its contract: the lookup's answer, put.
+-- `batch::four::put_lookup` meets its contract: a lookup's probes are few.
 -- Assumes nothing.
-use mathlib.Core.Path.{ap, ◌∙◌}
+use borrow.Author.Rules.{rules}
+use mathlib.Core.Path.{ap}
 use native.Mathlib.Omega.{arith}
+use Prim.Native.Nat.{◌<◌, ◌^◌}
+use lib.ListN.{length}
 use Rattle.lookup.specs.Lookup.{probes_of}
 use Rattle.lookup.proofs.Probes.{few-in}
-use Rattle.batch.specs.Batch.{numbers_of}
-use Rattle.batch.proofs.Paging.{put_is}
 use Rattle.batch.proofs.four.put_lookup.Goals as goal
 
 pub flat-requires : goal.flat-requires
 flat-requires c =
-    omega (arith, ap probes_of c.lookup_in.ensures, few-in c.args.s.now (omega (arith, c.well_formed.0.1)) c.args.lists c.args.address)
-
-pub returns : goal.returns
-returns c = put_is _ _ _ _ _ c.put.ensures (c.flat.ensures ∙ ap numbers_of c.lookup_in.ensures)
+    let room : length c.args.section.bytes.now < 2 ^ 64 = search rules in
+    omega (arith, ap probes_of c.lookup_in-found.ensures, few-in _ room c.args.section.lists c.args.address)

@@ -13,14 +13,10 @@ decoded : (w : ℕ) {t : Told} → t ≡ decode_of (w / 1024 % 8) (w % 1024) →
 decoded w e = e ∙ ap (λ (x : ℕ). decode_of (w / 1024 % 8) (x % 1024)) (sym (div-one w))
 
 pub returns-in_default : goal.returns-in_default
-returns-in_default c =
-    c.alone.ensures
-    ∙ invalid _ c.requires c.decode_permutation_6-permutation.result.registers c.decode_permutation_6-permutation.result.decoded (decoded _ c.decode_permutation_6-permutation.ensures) c.in_default.is
+returns-in_default c = c.alone.ensures ∙ invalid _ c.requires _ _ (decoded _ c.in_default.ensures)
 
 pub returns-then-opcode-eq0 : goal.returns-then-opcode-eq0
-returns-then-opcode-eq0 c =
-    immediate _ c.requires c.decode_permutation_6-permutation.result.registers c.decode_permutation_6-permutation.result.decoded (decoded _ c.decode_permutation_6-permutation.ensures) c.in-Accepted.is c.if-opcode-eq0.true
+returns-then-opcode-eq0 c = immediate _ c.requires _ (decoded _ c.in-Ok.ensures) c.if-opcode-eq0.true
 
 pub returns : goal.returns
-returns c =
-    indirect _ c.requires c.decode_permutation_6-permutation.result.registers c.decode_permutation_6-permutation.result.decoded (decoded _ c.decode_permutation_6-permutation.ensures) c.in-Accepted.is c.if-opcode-eq0.false
+returns c = indirect _ c.requires _ (decoded _ c.in-Ok.ensures) c.if-opcode-eq0.false

@@ -1,20 +1,9 @@
 -- `opcodes::words_arm64::WordArm64::parse` meets its contract: what the word says by its kind.
 -- Assumes nothing.
 use mathlib.Core.Path.{ap, sym, ◌∙◌}
-use native.Mathlib.Omega.{arith}
-use lib.Bits.{bit_and, and_le_r}
-use lib.Count.{ones-le}
 use Rattle.opcodes.specs.Bits.{kind_of}
 use Rattle.opcodes.proofs.NumbersArm64.{based, not-based}
 use Rattle.opcodes.proofs.words_arm64.WordArm64.parse.Goals as goal
-
-pub overflow_cast-result : goal.overflow_cast-result
-overflow_cast-result c =
-    let w = c.args.opcode in
-    record { fits = omega (arith, ones-le 12 (bit_and w 0xF1F) (omega (arith, and_le_r w 0xF1F))) }
-
-pub overflow_cast-result-then-kind-eq-OPCODE_KIND_ARM64_FRAMEBASED : goal.overflow_cast-result-then-kind-eq-OPCODE_KIND_ARM64_FRAMEBASED
-overflow_cast-result-then-kind-eq-OPCODE_KIND_ARM64_FRAMEBASED c = record { fits = omega (arith, and_le_r c.args.opcode 0xF1F) }
 
 pub returns-then-kind-eq-OPCODE_KIND_ARM64_FRAMEBASED : goal.returns-then-kind-eq-OPCODE_KIND_ARM64_FRAMEBASED
 returns-then-kind-eq-OPCODE_KIND_ARM64_FRAMEBASED c =

@@ -1,8 +1,8 @@
 -- `opcodes::words_x86_64::WordX86_64::parse` meets its contract: what the word says by its kind.
 -- Assumes nothing.
-use Prim.Native.Nat.{ℕ, ◌*◌, ◌%◌, ◌^◌, ◌<◌}
+use Prim.Native.Nat.{ℕ, ◌*◌, ◌%◌, ◌^◌}
 use mathlib.Core.Path.{ap, sym, ◌∙◌}
-use mathlib.Core.Bool.{Bool, true, false, cond}
+use mathlib.Core.Bool.{cond}
 use native.Mathlib.Nat.{div-one}
 use native.Mathlib.Omega.{arith}
 use lib.Dec.{eqb}
@@ -10,18 +10,9 @@ use Rattle.opcodes.specs.Bits.{bits, kind_of}
 use Rattle.opcodes.proofs.NumbersX86.{plain, no_kind}
 use Rattle.opcodes.proofs.words_x86_64.WordX86_64.parse.Goals as goal
 
-picked : (b : Bool) (w : ℕ) → cond b (w % 0x8000) 0 < 0x8000
-picked true w = omega arith
-picked false w = omega arith
-
 pub returns-then-kind-gt-OPCODE_KIND_X86_DWARF : goal.returns-then-kind-gt-OPCODE_KIND_X86_DWARF
 returns-then-kind-gt-OPCODE_KIND_X86_DWARF c =
-    c.alone.ensures ∙ no_kind _ _ (sym (c.kind-kind.ensures ∙ ap kind_of c.new.ensures)) (omega arith)
-
-pub overflow_cast-pick : goal.overflow_cast-pick
-overflow_cast-pick c =
-    let e = c.pick-2.ensures in
-    omega (arith, e, picked (eqb c.kind-kind.result 1) c.args.opcode)
+    c.alone.ensures ∙ rw c.from.ensures (no_kind _ _ (sym (c.kind-kind.ensures ∙ ap kind_of c.new.ensures)) (omega arith))
 
 pub returns : goal.returns
 returns c =

@@ -1,36 +1,27 @@
 -- `rules::x86_64::RuleX86_64::parse` meets its contract: the rule goes by what parsing tells, case by case.
 -- Assumes nothing.
-use mathlib.Core.Path.{◌∙◌}
-use Rattle.rules.proofs.SaysX86.{rule-said, fit-said}
+use mathlib.Core.Path.{sym, ◌∙◌}
+use Prim.Native.Nat.{◌/◌, ◌%◌}
+use native.Mathlib.Omega.{arith}
+use lib.ListN.{length-take}
+use Rattle.rules.proofs.SaysX86.{fit_told, rule_of_told}
 use Rattle.rules.proofs.x86_64.RuleX86_64.parse.Goals as goal
 
 pub frame_based-requires : goal.frame_based-requires
-frame_based-requires c = fit-said c.args.opcode c.parse-parsed.result _ c.parse-parsed.ensures c.in-FrameBased.is
+frame_based-requires c = fit_told c.args.opcode _ c.in-FrameBased.ensures
+
+pub slice_bounds-saved_regs-end : goal.slice_bounds-saved_regs-end
+slice_bounds-saved_regs-end c =
+    let f = fit_told c.args.opcode _ c.in-FramelessImmediate.ensures in
+    omega (arith, f.1, length-take (c.args.opcode / 1024 % 8) c.in-FramelessImmediate.saved_regs)
+
+pub slice_bounds-frameless-end : goal.slice_bounds-frameless-end
+slice_bounds-frameless-end c = sym (fit_told c.args.opcode _ c.in-FramelessImmediate.ensures).1
 
 pub frameless-requires : goal.frameless-requires
-frameless-requires c = fit-said c.args.opcode c.parse-parsed.result _ c.parse-parsed.ensures c.in-FramelessImmediate.is
-
-pub returns-in-Null : goal.returns-in-Null
-returns-in-Null c = c.refuse.ensures ∙ rule-said c.args.opcode c.parse-parsed.result _ c.parse-parsed.ensures c.in-Null.is
-
-pub returns-in-FrameBased : goal.returns-in-FrameBased
-returns-in-FrameBased c = c.frame_based.ensures ∙ rule-said c.args.opcode c.parse-parsed.result _ c.parse-parsed.ensures c.in-FrameBased.is
+frameless-requires c =
+    let f = fit_told c.args.opcode _ c.in-FramelessImmediate.ensures in
+    (omega (arith, f.0, f.1), f.2)
 
 pub returns-in-FramelessImmediate : goal.returns-in-FramelessImmediate
-returns-in-FramelessImmediate c =
-    c.frameless.ensures ∙ rule-said c.args.opcode c.parse-parsed.result _ c.parse-parsed.ensures c.in-FramelessImmediate.is
-
-pub returns-in-FramelessIndirect : goal.returns-in-FramelessIndirect
-returns-in-FramelessIndirect c =
-    c.refuse-in-FramelessIndirect.ensures ∙ rule-said c.args.opcode c.parse-parsed.result _ c.parse-parsed.ensures c.in-FramelessIndirect.is
-
-pub returns-in-Dwarf : goal.returns-in-Dwarf
-returns-in-Dwarf c = c.refuse-in-Dwarf.ensures ∙ rule-said c.args.opcode c.parse-parsed.result _ c.parse-parsed.ensures c.in-Dwarf.is
-
-pub returns-in-InvalidFrameless : goal.returns-in-InvalidFrameless
-returns-in-InvalidFrameless c =
-    c.refuse-in-InvalidFrameless.ensures ∙ rule-said c.args.opcode c.parse-parsed.result _ c.parse-parsed.ensures c.in-InvalidFrameless.is
-
-pub returns-in-UnrecognizedKind : goal.returns-in-UnrecognizedKind
-returns-in-UnrecognizedKind c =
-    c.refuse-in-UnrecognizedKind.ensures ∙ rule-said c.args.opcode c.parse-parsed.result _ c.parse-parsed.ensures c.in-UnrecognizedKind.is
+returns-in-FramelessImmediate c = c.frameless.ensures ∙ rule_of_told c.args.opcode _ c.in-FramelessImmediate.ensures

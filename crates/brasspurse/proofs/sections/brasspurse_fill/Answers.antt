@@ -1,7 +1,0 @@
--- `brasspurse::sections::brasspurse_fill` meets its contract: what was told, flat, with the list.
--- Assumes nothing.
-use Rattle.brasspurse.proofs.Refusals.{filled-flat}
-use Rattle.brasspurse.proofs.sections.brasspurse_fill.Goals as goal
-
-pub returns : goal.returns
-returns c = filled-flat _ c.fill-filled.result _ _ c.flat_fill.ensures c.fill-filled.ensures

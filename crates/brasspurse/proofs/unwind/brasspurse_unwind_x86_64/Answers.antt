@@ -1,7 +1,0 @@
--- `brasspurse::unwind::brasspurse_unwind_x86_64` meets its contract: the combined call, flat.
--- Assumes nothing.
-use Rattle.brasspurse.proofs.FlatUnwinds.{unwind-x86}
-use Rattle.brasspurse.proofs.unwind.brasspurse_unwind_x86_64.Goals as goal
-
-pub returns : goal.returns
-returns c = unwind-x86 c.number.result c.value.result c.unwind-unwound.result _ c.number.ensures c.value.ensures c.unwind-unwound.ensures
