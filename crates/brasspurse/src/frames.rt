@@ -13,7 +13,7 @@ use step::x86_64::RegistersX86_64;
 
 // refusal is 0, or 20 to 25 with value DWARF's 24 bits for 21, the kind for 22, and every other number 0. cfa_register is 0 for rsp, 1 for rbp.
 #[repr(C)]
-#[derive(Clone, Copy, Debug, PartialEq, Eq)]
+#[derive(Clone, Copy, Debug, Default, PartialEq, Eq)]
 pub struct RuleX86_64Answer {
     pub refusal: u32,
     pub value: u32,
@@ -68,9 +68,7 @@ impl From<Result<RuleX86_64, Refusal>> for RuleX86_64Answer {
             Err(refusal) => RuleX86_64Answer {
                 refusal: u32::from(refusal.number()),
                 value: refusal.value(),
-                cfa_distance: 0,
-                cfa_register: 0,
-                below: [0; 6],
+                ..RuleX86_64Answer::default()
             },
         }
     }
@@ -91,6 +89,7 @@ impl From<Result<RuleArm64, Refusal>> for RuleArm64Answer {
                     below,
                 }
             }
+            // Each number in place: of a default array of 20 the check does not find that all are 0.
             Err(refusal) => RuleArm64Answer {
                 refusal: u32::from(refusal.number()),
                 value: refusal.value(),

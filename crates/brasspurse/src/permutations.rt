@@ -51,7 +51,7 @@ impl From<Result<u32, Error>> for EncodingAnswer {
             },
             Err(error) => EncodingAnswer {
                 refusal: u32::from(error.number()),
-                encoding: 0,
+                ..EncodingAnswer::default()
             },
         }
     }

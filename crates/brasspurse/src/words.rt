@@ -70,19 +70,26 @@ pub fn brasspurse_register_x86_64(n: u8) -> RegisterAnswer
     RegisterNameX86_64::parse(n).into()
 }
 
+impl From<WordX86_64> for OpcodeX86_64Answer {
+    ghost from_gives = { λ word answer. answer ≡ x86_answer word };
+
+    fn from(word: WordX86_64) -> OpcodeX86_64Answer {
+        let popped_regs = word.saved_regs;
+        OpcodeX86_64Answer {
+            value: word.value,
+            answer: word.answer,
+            stack_adjust_in_bytes: word.stack_adjust_in_bytes,
+            fields: word.fields,
+            field_states: states(word.fields),
+            popped_regs,
+        }
+    }
+}
+
 pub fn brasspurse_parse_x86_64(word: u32) -> OpcodeX86_64Answer
     ensures { result ≡ x86_answer (x86.numbers_of (x86.parse_of word)) }
 {
-    let parsed = WordX86_64::parse(word);
-    let popped_regs = parsed.saved_regs;
-    OpcodeX86_64Answer {
-        value: parsed.value,
-        answer: parsed.answer,
-        stack_adjust_in_bytes: parsed.stack_adjust_in_bytes,
-        fields: parsed.fields,
-        field_states: states(parsed.fields),
-        popped_regs,
-    }
+    WordX86_64::parse(word).into()
 }
 
 // One for a field that isn't 0, and one more where it is 7. (For speed all five at once: with `RegisterNameX86_64::parse` for each a frame-based

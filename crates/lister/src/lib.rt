@@ -13,6 +13,7 @@ ghost use Rattle.lister.specs.Block.{start, room_in, counted, stop_text, is_end,
 use fill::Stop;
 use iterate::Cursor;
 use raw::{Error, Section};
+use std::io;
 use streams::say;
 
 // Where a listing stands: the cursor of the next call, the functions so far, and whether the end is written.
@@ -159,17 +160,10 @@ pub fn write_block(s: &[u8], at: Place, out: &mut [u8]) -> Block
     write_block_on(accept(s), at, out)
 }
 
-// Hands a block on to standard output, unless one before it failed; answers whether none has. At the first failure a line on
-// standard error says why.
-fn hand_on(rt: &(impl Print + Eprint), before: bool, text: &[u8]) -> bool {
-    if !before {
-        return false;
-    }
-    let Err(error) = rt.write_all(text) else {
-        return true;
-    };
-    say(rt, "standard output", &error);
-    false
+// Hands a block on to standard output; where that fails, a line on standard error says why.
+fn hand_on(rt: &(impl Print + Eprint), text: &[u8]) -> io::Result<()> {
+    rt.write_all(text)
+        .inspect_err(|error| say(rt, "standard output", error))
 }
 
 // Writes the listing of a section to standard output, block after block, as long as no write fails. Answers how many bytes the listing
@@ -181,11 +175,11 @@ pub fn list(rt: &(impl Print + Eprint), s: &[u8]) -> u64
     let mut text = room_for_text();
     let mut at = start_place();
     let mut total = 0u64;
-    let mut whole = true;
+    let mut handed = Ok(());
     while !at.ended {
         let block = write_block_on(accepted, at, &mut text);
         let n = block.written;
-        whole = hand_on(rt, whole, reader::part(&text, 0, n));
+        handed = handed.and_then(|()| hand_on(rt, reader::part(&text, 0, n)));
         total = total.saturating_add(n as u64);
         at = block.next;
     }

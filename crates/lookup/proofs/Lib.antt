@@ -5,3 +5,4 @@ pub mod Probes
 pub mod One
 pub mod Numbers
 pub mod Where
+pub mod Calls

@@ -9,6 +9,7 @@ use Rattle.raw.specs.declared.Page.{Page}
 use Rattle.raw.specs.declared.Error.{Error}
 use Rattle.raw.specs.Checked.{Checked, good, refused, either, number_of}
 use Rattle.raw.specs.Raw.{parse_of, grant_of, pages_of, page_of, layout}
+use Rattle.raw.specs.Section.{Standing}
 use Rattle.entries.specs.declared.Function.{Function}
 use Rattle.entries.specs.Entries.{functions_of}
 use Rattle.entries.specs.Section.{first_of, offset_of, page_at, function_at}
@@ -58,6 +59,10 @@ lookup_in s l pc = either (λ k. refusal k 0) (λ m. lookup_of s m pc) (grant_of
 
 unfoldable pub lookup_on : List ℕ → ℕ → Looked
 lookup_on s pc = either (λ k. refusal k 0) (λ m. lookup_of s m pc) (parse_of s)
+
+-- for the helpers: over a section, or what refused it
+abbrev pub looked_on : Checked Standing → ℕ → Looked
+looked_on x pc = either (λ k. refusal k 0) (λ z. lookup_of z.bytes.bytes z.lists pc) x
 
 -- the entries that a lookup probed
 abbrev pub probes_of : Looked → ℕ

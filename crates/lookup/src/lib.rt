@@ -3,13 +3,14 @@
 
 ghost use Rattle.std.specs.Prelude.{◌≡◌, true, ◌+◌, ◌-◌, ◌≤◌, ◌<◌, drop};
 ghost use Rattle.raw.specs.Checked.{told};
-ghost use Rattle.raw.specs.Raw.{layout, pages_of, page_of};
+ghost use Rattle.raw.specs.Section.{section_told};
+ghost use Rattle.raw.specs.Raw.{layout, pages_of};
 ghost use Rattle.entries.specs.Placed.{list_there, list_at};
-ghost use Rattle.lookup.specs.Lookup.{telling, at_page, lookup_of, lookup_in, lookup_on, looked_told};
+ghost use Rattle.lookup.specs.Lookup.{telling, at_page, lookup_of, lookup_in, lookup_on, looked_on, looked_told};
 ghost use Rattle.lookup.specs.Searched.{WasRead, searched_in};
 
 use entries::{Function, PageAt, Place};
-use raw::{Error, Kind, Lists, Page, Section};
+use raw::{Error, Kind, Lists, Section};
 use search::{CompressedEntry, Entry, PageEntry, RegularEntry};
 
 // What was found, none or a refusal, with the number of entries that the searches probed.
@@ -17,6 +18,14 @@ use search::{CompressedEntry, Entry, PageEntry, RegularEntry};
 pub struct Found {
     pub probes: u32,
     pub function: Result<Option<Function>, Error>,
+}
+
+// The address that is looked for, and the entries that the search of pages probed.
+#[derive(Clone, Copy)]
+struct Sought {
+    pc: u32,
+    probes: u32,
+    ghost few: { probes ≤ 64 },
 }
 
 // What a page's function tells, with the probes.
@@ -48,13 +57,13 @@ fn functions_of<'a, E: Entry>(at: PageAt<'a>) -> &'a [u8]
 }
 
 // In a page of one kind: so the compiler knows the kind in the search and in the read.
-fn in_kind<E: Entry>(at: PageAt, pc: u32, probes: u32) -> Found
-    requires { (probes ≤ 64) × WasRead at.section.now at.place × (layout at.place.page.kind ≡ E.layout) }
-    ensures { looked_told result ≡ searched_in at.entry.place.index at.entry.globals.now (drop at.entry.place.offset at.entry.section.now) at.entry.place.page at.entry.place.next pc probes }
+fn in_kind<E: Entry>(at: PageAt, sought: Sought) -> Found
+    requires { WasRead at.section.now at.place × (layout at.place.page.kind ≡ E.layout) }
+    ensures { looked_told result ≡ searched_in at.entry.place.index at.entry.globals.now (drop at.entry.place.offset at.entry.section.now) at.entry.place.page at.entry.place.next sought.pc sought.probes }
 {
     let page = at.place.page;
-    let spot = search::search::<E>(functions_of::<E>(at), above(pc, page.base));
-    let all = probes + spot.probes;
+    let spot = search::search::<E>(functions_of::<E>(at), above(sought.pc, page.base));
+    let all = sought.probes + spot.probes;
     if spot.at == 0 {
         return answered(Err(Error::InvalidPageEntryFirstAddress), all);
     }
@@ -62,26 +71,27 @@ fn in_kind<E: Entry>(at: PageAt, pc: u32, probes: u32) -> Found
 }
 
 // In a page that was read.
-fn in_page(at: PageAt, pc: u32, probes: u32) -> Found
-    requires { (probes ≤ 64) × WasRead at.section.now at.place }
-    ensures { looked_told result ≡ searched_in at.entry.place.index at.entry.globals.now (drop at.entry.place.offset at.entry.section.now) at.entry.place.page at.entry.place.next pc probes }
+fn in_page(at: PageAt, sought: Sought) -> Found
+    requires { WasRead at.section.now at.place }
+    ensures { looked_told result ≡ searched_in at.entry.place.index at.entry.globals.now (drop at.entry.place.offset at.entry.section.now) at.entry.place.page at.entry.place.next sought.pc sought.probes }
 {
     let kind = at.place.page.kind;
     match kind {
-        Kind::Regular => in_kind::<RegularEntry>(at, pc, probes),
-        Kind::Compressed => in_kind::<CompressedEntry>(at, pc, probes),
+        Kind::Regular => in_kind::<RegularEntry>(at, sought),
+        Kind::Compressed => in_kind::<CompressedEntry>(at, sought),
     }
 }
 
 // Page p: its entry and the next one are in the list.
-fn at_page(section: Section, pages: &[u8], pc: u32, p: u32, probes: u32) -> Found
-    requires { (pages.now ≡ pages_of section.bytes.now section.lists) × (p + 1 < section.lists.pages_len) × (probes ≤ 64) }
-    ensures { looked_told result ≡ at_page section.entry.bytes.now section.entry.lists pc p probes }
+fn at_page(section: Section, pages: &[u8], sought: Sought, p: u32) -> Found
+    requires { (pages.now ≡ pages_of section.bytes.now section.lists) × (p + 1 < section.lists.pages_len) }
+    ensures { looked_told result ≡ at_page section.entry.bytes.now section.entry.lists sought.pc p sought.probes }
 {
     let e = raw::page_entry(pages, p);
-    let page = match read_page(section.bytes, e.offset, e.first) {
+    // The page's local opcodes are not asked for.
+    let page = match raw::read_page(section.bytes, e.offset, e.first) {
         Ok(page) => page,
-        Err(error) => return answered(Err(error), probes),
+        Err(error) => return answered(Err(error), sought.probes),
     };
     let place = Place {
         index: p,
@@ -94,14 +104,7 @@ fn at_page(section: Section, pages: &[u8], pc: u32, p: u32, probes: u32) -> Foun
         globals: section.global_opcodes(),
         place,
     };
-    in_page(at, pc, probes)
-}
-
-// How lookup opens a page: its local opcodes are not asked for.
-fn read_page(s: &[u8], offset: u32, first: u32) -> Result<Page, Error>
-    ensures { told result ≡ page_of s.now offset first }
-{
-    raw::read_page(s, offset, first)
+    in_page(at, sought)
 }
 
 fn lookup_of(section: Section, pc: u32) -> Found
@@ -124,24 +127,31 @@ fn lookup_of(section: Section, pc: u32) -> Found
             function: Ok(None),
         };
     }
-    at_page(section, pages, pc, (at - 1) as u32, probes)
+    let sought = Sought { pc, probes };
+    at_page(section, pages, sought, (at - 1) as u32)
+}
+
+// The lookup on a section, or what refuses it.
+fn looked_on(section: Result<Section, Error>, pc: u32) -> Found
+    ensures { looked_told result ≡ looked_on (section_told section.entry) pc }
+{
+    match section {
+        Ok(section) => lookup_of(section, pc),
+        Err(error) => answered(Err(error), 0),
+    }
 }
 
 // The function that covers the address, of lists that anyone may name.
+#[tactic(auto, using(crate::proofs::Calls::over_section), unfolding(crate::specs::Lookup::lookup_in))]
 pub fn lookup_in(s: &[u8], lists: Lists, pc: u32) -> Found
     ensures { looked_told result ≡ lookup_in s.now lists pc }
 {
-    match Section::new(s, lists) {
-        Ok(section) => lookup_of(section, pc),
-        Err(error) => answered(Err(error), 0),
-    }
+    looked_on(Section::new(s, lists), pc)
 }
 
+#[tactic(auto, using(crate::proofs::Calls::over_section), unfolding(crate::specs::Lookup::lookup_on))]
 pub fn lookup(s: &[u8], pc: u32) -> Found
     ensures { looked_told result ≡ lookup_on s.now pc }
 {
-    match Section::parse(s) {
-        Ok(section) => lookup_of(section, pc),
-        Err(error) => answered(Err(error), 0),
-    }
+    looked_on(Section::parse(s), pc)
 }

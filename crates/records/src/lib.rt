@@ -13,7 +13,7 @@ mod records;
 mod text;
 
 pub use records::Records;
-pub use text::{put, show, show_count};
+pub use text::{put, show, show_all, show_count};
 
 // A number of which many stand in a record, one after the other.
 pub trait Recorded: Number + PartialEq {

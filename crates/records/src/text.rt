@@ -15,6 +15,18 @@ pub fn show(rt: &impl Print, name: &[u8], t: Tally) -> io::Result<u64>
     Ok(t.compared)
 }
 
+// A line for each name's tally, or for that of its controls. Answers how many lines there were.
+pub fn show_all(rt: &impl Print, tallies: &[(&[u8], Tally)], control: bool) -> io::Result<usize>
+    ensures { IfOk result (λ lines. lines ≡ length tallies.now) }
+{
+    let after: &[u8] = if control { b", controls" } else { b"" };
+    for (name, tally) in tallies {
+        rt.write_all(name)?;
+        show(rt, after, *tally)?;
+    }
+    Ok(tallies.len())
+}
+
 // For records with nothing to compare.
 pub fn show_count(rt: &impl Print, name: &[u8], t: Tally) -> io::Result<u64>
     ensures { IfOk result (λ told. told ≡ t.compared) }

@@ -12,7 +12,7 @@ use brasspurse::sections::{
 use raw::Lists;
 use reader::part;
 use records::nth;
-use std::io;
+use std::{array, io};
 
 pub fn answer(rt: &impl Print, tag: u32, section: &[u8], asked: &[u8]) -> io::Result<()> {
     match tag {
@@ -118,19 +118,11 @@ fn put_fill(rt: &impl Print, filled: FillAnswer) -> io::Result<()> {
 }
 
 fn batch(rt: &impl Print, section: &[u8], asked: &[u8], list: &mut [u32]) -> io::Result<()> {
-    let addresses = nine(asked);
+    // They come after the first two numbers.
+    let addresses: [u32; 9] = array::from_fn(|k| nth(asked, k + 2));
     let n = room(asked, 1, &addresses);
     put(
         rt,
         &[brasspurse_lookup_batch(section, &addresses[..n], list)],
     )
-}
-
-// The nine numbers after the first two.
-fn nine(asked: &[u8]) -> [u32; 9] {
-    let mut nine = [0u32; 9];
-    for (k, number) in nine.iter_mut().enumerate() {
-        *number = nth(asked, k + 2);
-    }
-    nine
 }

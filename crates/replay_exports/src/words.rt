@@ -7,7 +7,7 @@ use brasspurse::words::{
     brasspurse_parse_x86_64, brasspurse_register_x86_64,
 };
 use records::nth;
-use std::io;
+use std::{array, io};
 
 pub fn answer(rt: &impl Print, tag: u32, asked: &[u8]) -> io::Result<()> {
     let word = nth(asked, 0);
@@ -37,11 +37,7 @@ fn put_encoding(rt: &impl Print, answer: EncodingAnswer) -> io::Result<()> {
 
 // The six numbers after the first.
 fn registers(asked: &[u8]) -> [u8; 6] {
-    let mut registers = [0u8; 6];
-    for (k, register) in registers.iter_mut().enumerate() {
-        *register = byte(asked, k + 1);
-    }
-    registers
+    array::from_fn(|k| byte(asked, k + 1))
 }
 
 fn byte(asked: &[u8], k: usize) -> u8 {

@@ -9,18 +9,25 @@ use step::x86_64::RegistersX86_64;
 
 #[derive(Clone, Copy, Debug, PartialEq, Eq)]
 pub enum Machine {
-    X86_64,
-    Arm64,
+    X86_64 = 1,
+    Arm64 = 2,
 }
 
 impl Machine {
+    // The machine whose records, or whose controls, have the tag.
+    pub fn of(tag: u64) -> Option<Machine> {
+        [Machine::X86_64, Machine::Arm64]
+            .into_iter()
+            .find(|machine| machine.has(tag))
+    }
+
+    fn has(self, tag: u64) -> bool {
+        tag == self.tag(false) || tag == self.tag(true)
+    }
+
     // A control has its machine's tag and 100 more.
     pub fn tag(self, control: bool) -> u64 {
-        let tag = match self {
-            Machine::X86_64 => 1,
-            Machine::Arm64 => 2,
-        };
-        if control { 100 + tag } else { tag }
+        self as u64 + if control { 100 } else { 0 }
     }
 
     // Where the window stands in a record.

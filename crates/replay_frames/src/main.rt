@@ -21,11 +21,16 @@ ghost use Rattle.std.specs.Prelude.{◌≤◌};
 
 use answers::{Machine, is_ours};
 use reader::read_or_0;
-use records::{Records, Tally, nth, show, show_count};
+use records::{Records, Tally, nth, show_all, show_count};
 use std::io;
 use streams::read_full;
 
 mod answers;
+
+const MACHINES: [(&[u8], Machine); 2] = [(b"x86_64", Machine::X86_64), (b"arm64", Machine::Arm64)];
+
+// The tag of the last record, which is alone.
+const END: u64 = 0;
 
 fn main(rt: HostRuntime) -> io::Result<()> {
     let mut buffer = [0u8; 131072];
@@ -34,35 +39,34 @@ fn main(rt: HostRuntime) -> io::Result<()> {
 }
 
 fn report(rt: &impl Print, s: &[u8]) -> io::Result<()> {
-    show(rt, b"x86_64", replay(s, Machine::X86_64, false))?;
-    show(rt, b"arm64", replay(s, Machine::Arm64, false))?;
-    show(rt, b"x86_64, controls", replay(s, Machine::X86_64, true))?;
-    show(rt, b"arm64, controls", replay(s, Machine::Arm64, true))?;
+    compared(rt, s, false)?;
+    compared(rt, s, true)?;
     show_count(rt, b"other", others(s))?;
     Ok(())
+}
+
+// A line for each machine, or for each machine's controls.
+fn compared(rt: &impl Print, s: &[u8], control: bool) -> io::Result<usize> {
+    let tallies = MACHINES.map(|(name, machine)| (name, replay(s, machine, control)));
+    show_all(rt, &tallies, control)
 }
 
 // The machine's records, or their controls.
 fn replay(s: &[u8], machine: Machine, control: bool) -> Tally {
     let asked = machine.tag(control);
-    let mut tally = Tally::default();
-    for record in Records::new(s, bytes) {
-        if tag(record) == asked {
-            tally = tally.count(is_ours(machine, record));
-        }
-    }
-    tally
+    Records::new(s, bytes)
+        .filter(|record| tag(record) == asked)
+        .fold(
+            Tally::default(),
+            |tally, record| tally.count(is_ours(machine, record)),
+        )
 }
 
 // The records whose tag is none of those that are known.
 fn others(s: &[u8]) -> Tally {
-    let mut tally = Tally::default();
-    for record in Records::new(s, bytes) {
-        if !matches!(tag(record), 0..=2 | 101..=102) {
-            tally = tally.count(true);
-        }
-    }
-    tally
+    Records::new(s, bytes)
+        .filter(|record| tag(record) != END && Machine::of(tag(record)).is_none())
+        .fold(Tally::default(), |tally, _| tally.count(true))
 }
 
 fn tag(record: &[u8]) -> u64 {
@@ -71,11 +75,7 @@ fn tag(record: &[u8]) -> u64 {
 
 // Of a record that is no machine's only the tag is passed.
 fn bytes(record: &[u8]) -> usize {
-    match tag(record) {
-        1 | 101 => Machine::X86_64.window() + padded(record),
-        2 | 102 => Machine::Arm64.window() + padded(record),
-        _ => 8,
-    }
+    Machine::of(tag(record)).map_or(8, |machine| machine.window() + padded(record))
 }
 
 // The window's length in whole numbers.

@@ -5,20 +5,15 @@ use reader::read_or_0;
 
 #[derive(Clone, Copy, Debug, PartialEq, Eq)]
 pub enum Question {
-    Permutation,
-    X86_64,
-    Arm64,
+    Permutation = 1,
+    X86_64 = 2,
+    Arm64 = 3,
 }
 
 impl Question {
     // A control has its question's tag and 100 more.
     pub fn tag(self, control: bool) -> u32 {
-        let tag = match self {
-            Question::Permutation => 1,
-            Question::X86_64 => 2,
-            Question::Arm64 => 3,
-        };
-        if control { 100 + tag } else { tag }
+        self as u32 + if control { 100 } else { 0 }
     }
 }
 

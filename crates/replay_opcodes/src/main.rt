@@ -23,11 +23,17 @@ ghost use Rattle.std.specs.Prelude.{◌≡◌, length};
 
 use answers::{Question, answer};
 use reader::part;
-use records::{Tally, is_recorded, nth, show};
+use records::{Tally, is_recorded, nth, show_all};
 use std::io;
 use streams::read_full;
 
 mod answers;
+
+const QUESTIONS: [(&[u8], Question); 3] = [
+    (b"permutations", Question::Permutation),
+    (b"x86_64 words", Question::X86_64),
+    (b"arm64 words", Question::Arm64),
+];
 
 // Room for the input; only its length matters.
 fn room_for_input() -> [u8; 524288]
@@ -43,25 +49,15 @@ fn main(rt: HostRuntime) -> io::Result<()> {
 }
 
 fn report(rt: &impl Print, s: &[u8]) -> io::Result<()> {
-    show(rt, b"permutations", replay(s, Question::Permutation, false))?;
-    show(rt, b"x86_64 words", replay(s, Question::X86_64, false))?;
-    show(rt, b"arm64 words", replay(s, Question::Arm64, false))?;
-    show(
-        rt,
-        b"permutations, controls",
-        replay(s, Question::Permutation, true),
-    )?;
-    show(
-        rt,
-        b"x86_64 words, controls",
-        replay(s, Question::X86_64, true),
-    )?;
-    show(
-        rt,
-        b"arm64 words, controls",
-        replay(s, Question::Arm64, true),
-    )?;
+    compared(rt, s, false)?;
+    compared(rt, s, true)?;
     Ok(())
+}
+
+// A line for each question, or for each question's controls.
+fn compared(rt: &impl Print, s: &[u8], control: bool) -> io::Result<usize> {
+    let tallies = QUESTIONS.map(|(name, question)| (name, replay(s, question, control)));
+    show_all(rt, &tallies, control)
 }
 
 // The records that ask the question, or the question's controls.

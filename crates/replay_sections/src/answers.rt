@@ -6,24 +6,22 @@ use brasspurse::sections::{
 
 #[derive(Clone, Copy, Debug, PartialEq, Eq)]
 pub enum Question {
-    Lookup,
-    Next,
-    Parse,
-    Range,
-    WellFormed,
+    Lookup = 1,
+    Next = 2,
+    Parse = 3,
+    Range = 4,
+    WellFormed = 5,
 }
 
 impl Question {
+    // Whether the tag is the question's or its controls'.
+    pub fn has(self, tag: u32) -> bool {
+        tag == self.tag(false) || tag == self.tag(true)
+    }
+
     // A control has its question's tag and 100 more.
     pub fn tag(self, control: bool) -> u32 {
-        let tag = match self {
-            Question::Lookup => 1,
-            Question::Next => 2,
-            Question::Parse => 3,
-            Question::Range => 4,
-            Question::WellFormed => 5,
-        };
-        if control { 100 + tag } else { tag }
+        self as u32 + if control { 100 } else { 0 }
     }
 }
 

@@ -24,11 +24,22 @@ ghost use Rattle.std.specs.Prelude.{◌<◌, ◌^◌};
 
 use answers::{Question, answer};
 use reader::part;
-use records::{Records, Tally, is_recorded, nth, show, show_count};
+use records::{Records, Tally, is_recorded, nth, show_all, show_count};
 use std::io;
 use streams::read_full;
 
 mod answers;
+
+const QUESTIONS: [(&[u8], Question); 5] = [
+    (b"lookups", Question::Lookup),
+    (b"nexts", Question::Next),
+    (b"parses", Question::Parse),
+    (b"ranges", Question::Range),
+    (b"well formed", Question::WellFormed),
+];
+
+// The tag of a record that is a section.
+const SECTION: u32 = 0;
 
 fn main(rt: HostRuntime) -> io::Result<()> {
     let mut buffer = [0u8; 65536];
@@ -37,33 +48,17 @@ fn main(rt: HostRuntime) -> io::Result<()> {
 }
 
 fn report(rt: &impl Print, s: &[u8]) -> io::Result<()> {
-    compared(rt, s)?;
-    controls(rt, s)?;
-    show_count(rt, b"sections", counted(s, |tag| tag == 0))?;
+    compared(rt, s, false)?;
+    compared(rt, s, true)?;
+    show_count(rt, b"sections", counted(s, |tag| tag == SECTION))?;
     show_count(rt, b"other", counted(s, is_other))?;
     Ok(())
 }
 
-fn compared(rt: &impl Print, s: &[u8]) -> io::Result<()> {
-    show(rt, b"lookups", replay(s, Question::Lookup, false))?;
-    show(rt, b"nexts", replay(s, Question::Next, false))?;
-    show(rt, b"parses", replay(s, Question::Parse, false))?;
-    show(rt, b"ranges", replay(s, Question::Range, false))?;
-    show(rt, b"well formed", replay(s, Question::WellFormed, false))?;
-    Ok(())
-}
-
-fn controls(rt: &impl Print, s: &[u8]) -> io::Result<()> {
-    show(rt, b"lookups, controls", replay(s, Question::Lookup, true))?;
-    show(rt, b"nexts, controls", replay(s, Question::Next, true))?;
-    show(rt, b"parses, controls", replay(s, Question::Parse, true))?;
-    show(rt, b"ranges, controls", replay(s, Question::Range, true))?;
-    show(
-        rt,
-        b"well formed, controls",
-        replay(s, Question::WellFormed, true),
-    )?;
-    Ok(())
+// A line for each question, or for each question's controls.
+fn compared(rt: &impl Print, s: &[u8], control: bool) -> io::Result<usize> {
+    let tallies = QUESTIONS.map(|(name, question)| (name, replay(s, question, control)));
+    show_all(rt, &tallies, control)
 }
 
 // The records that ask the question, or the question's controls, each of the last section before it.
@@ -72,7 +67,7 @@ fn replay(s: &[u8], question: Question, control: bool) -> Tally {
     let mut tally = Tally::default();
     let mut section = &s[..0];
     for record in Records::new(s, bytes) {
-        if tag(record) == 0 {
+        if tag(record) == SECTION {
             section = part(record, 52, bytes_after(record));
         } else if tag(record) == asked {
             tally = tally.count(is_ours(question, section, record));
@@ -85,17 +80,13 @@ fn replay(s: &[u8], question: Question, control: bool) -> Tally {
 fn counted<F: Fn(u32) -> bool>(s: &[u8], meant: F) -> Tally
     requires { F.IsAlwaysCallable meant }
 {
-    let mut tally = Tally::default();
-    for record in Records::new(s, bytes) {
-        if meant(tag(record)) {
-            tally = tally.count(true);
-        }
-    }
-    tally
+    Records::new(s, bytes)
+        .filter(|record| meant(tag(record)))
+        .fold(Tally::default(), |tally, _| tally.count(true))
 }
 
 fn is_other(tag: u32) -> bool {
-    !matches!(tag, 0..=5 | 101..=105)
+    tag != SECTION && !QUESTIONS.iter().any(|(_, question)| question.has(tag))
 }
 
 fn tag(record: &[u8]) -> u32 {
@@ -109,7 +100,7 @@ fn bytes(record: &[u8]) -> usize {
 fn bytes_after(record: &[u8]) -> usize
     ensures { result < 2 ^ 32 }
 {
-    if tag(record) == 0 {
+    if tag(record) == SECTION {
         nth::<u32>(record, 1) as usize
     } else {
         0

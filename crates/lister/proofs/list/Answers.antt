@@ -21,9 +21,6 @@ loop-at-init g c = (
   omega arith,
 )
 
-pub slice_bounds-part-end : goal.slice_bounds-part-end
-slice_bounds-part-end g c = omega (arith, c.loop-at.invariant.0)
-
 pub loop-at-smaller : goal.loop-at-smaller
 loop-at-smaller g c =
     let room : 52 ≤ length c.loop-at.text = omega (arith, c.loop-at.invariant.0) in

@@ -8,7 +8,7 @@ use Rattle.lookup.proofs.Cases.{page-refused, page-found}
 use Rattle.lookup.proofs.at_page.Goals as goal
 
 pub in_page-requires : goal.in_page-requires
-in_page-requires c = (c.requires.2, (_, sym c.read_page.ensures ∙ ap told c.in-Ok.is))
+in_page-requires c = (_, sym c.read_page.ensures ∙ ap told c.in-Ok.is)
 
 pub returns : goal.returns
 returns c =

@@ -19,11 +19,17 @@ pub overflow_cast-at : goal.overflow_cast-at
 unfolding pages_of
 overflow_cast-at c = omega (arith, within _ _ _ _ _ c.search-spot.ensures (few-pages _ c.args.section.lists _ (bytes_of c.pages-pages.ensures)))
 
+pub invariant_of-sought : goal.invariant_of-sought
+unfolding pages_of
+invariant_of-sought c =
+    let h = few-pages _ c.args.section.lists _ (bytes_of c.pages-pages.ensures) in
+    omega (arith, few _ _ _ _ _ c.search-spot.ensures h (search rules))
+
 pub at_page-requires : goal.at_page-requires
 unfolding pages_of
 at_page-requires c =
     let h = few-pages _ c.args.section.lists _ (bytes_of c.pages-pages.ensures) in
-    (bytes_of c.pages-pages.ensures, omega (arith, within _ _ _ _ _ c.search-spot.ensures h, c.if-at-n.false, c.if-at-eq0.false), omega (arith, few _ _ _ _ _ c.search-spot.ensures h (search rules)))
+    (bytes_of c.pages-pages.ensures, omega (arith, within _ _ _ _ _ c.search-spot.ensures h, c.if-at-n.false, c.if-at-eq0.false))
 
 pub returns : goal.returns
 unfolding pages_of
