@@ -4,9 +4,9 @@ ghost use Rattle.rules.specs.RulesX86 as rules_x86;
 ghost use Rattle.rules.specs.RulesArm64 as rules_arm64;
 ghost use Rattle.step.specs.StepsX86 as steps_x86;
 ghost use Rattle.step.specs.StepsArm64 as steps_arm64;
-ghost use Rattle.brasspurse.specs.Frames.{rule_x86_answer, rule_arm64_answer, step_x86_answer, step_arm64_answer};
+ghost use Rattle.brasspurse.specs.Frames.{register_number, rule_x86_answer, rule_arm64_answer, step_x86_answer, step_arm64_answer};
 
-use rules::{Refusal, RuleArm64, RuleX86_64};
+use rules::{CfaRegister, Refusal, RuleArm64, RuleX86_64};
 use step::Registers;
 use step::arm64::RegistersArm64;
 use step::x86_64::RegistersX86_64;
@@ -50,6 +50,12 @@ pub struct StepArm64Answer {
     pub registers: RegistersArm64,
 }
 
+fn register_number(register: CfaRegister) -> u32
+    ensures { result ≡ register_number register }
+{
+    register as u32
+}
+
 impl From<Result<RuleX86_64, Refusal>> for RuleX86_64Answer {
     ghost from_gives = { λ rule answer. answer ≡ rule_x86_answer (rules_x86.rule_told rule) };
 
@@ -61,7 +67,7 @@ impl From<Result<RuleX86_64, Refusal>> for RuleX86_64Answer {
                     refusal: 0,
                     value: 0,
                     cfa_distance: rule.cfa_distance,
-                    cfa_register: rule.cfa_register as u32,
+                    cfa_register: register_number(rule.cfa_register),
                     below,
                 }
             }
@@ -85,7 +91,7 @@ impl From<Result<RuleArm64, Refusal>> for RuleArm64Answer {
                     refusal: 0,
                     value: 0,
                     cfa_distance: rule.cfa_distance,
-                    cfa_register: rule.cfa_register as u32,
+                    cfa_register: register_number(rule.cfa_register),
                     below,
                 }
             }

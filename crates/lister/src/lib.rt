@@ -8,7 +8,7 @@ ghost use Rattle.fill.specs.Fill.{why_of, taken_of};
 ghost use Rattle.listing.specs.Listing.{written, over, whole_of, refused_of, end_of};
 ghost use Rattle.lister.specs.declared.Refusal.TheVariants.{Section as OfSection};
 ghost use Rattle.lister.specs.Lister.{accepted_of, listing_of};
-ghost use Rattle.lister.specs.Block.{start, room_in, counted, stop_text, is_end, taken_block, block_of, block_on, block_told, number_of, accepted_told};
+ghost use Rattle.lister.specs.Block.{start, room_in, counted, stop_text, is_end, taken_block, block_of, block_told, number_of, accepted_told};
 
 use fill::Stop;
 use iterate::Cursor;
@@ -130,9 +130,9 @@ fn write_functions(section: Section, at: Place, numbers: &mut [u32], out: &mut [
     }
 }
 
-// The next block of the listing of an input that was accepted or not.
-fn write_block_on(accepted: Result<Section, Refusal>, at: Place, out: &mut [u8]) -> Block
-    ensures { block_told result out.new ≡ block_on (accepted_told accepted.entry) at out.old }
+// The next block of the listing, as much as has room.
+pub fn write_block(s: &[u8], at: Place, out: &mut [u8]) -> Block
+    ensures { block_told result out.new ≡ block_of s.now at out.old }
 {
     if at.ended || out.len() < 52 {
         return Block {
@@ -140,7 +140,7 @@ fn write_block_on(accepted: Result<Section, Refusal>, at: Place, out: &mut [u8])
             next: at,
         };
     }
-    match accepted {
+    match accept(s) {
         Err(refusal) => Block {
             written: write_refusal(refusal.number(), out),
             next: Place { ended: true, ..at },
@@ -151,13 +151,6 @@ fn write_block_on(accepted: Result<Section, Refusal>, at: Place, out: &mut [u8])
             write_functions(section, at, &mut numbers[..n], out)
         }
     }
-}
-
-// The next block of the listing, as much as has room.
-pub fn write_block(s: &[u8], at: Place, out: &mut [u8]) -> Block
-    ensures { block_told result out.new ≡ block_of s.now at out.old }
-{
-    write_block_on(accept(s), at, out)
 }
 
 // Hands a block on to standard output; where that fails, a line on standard error says why.
@@ -171,13 +164,12 @@ fn hand_on(rt: &(impl Print + Eprint), text: &[u8]) -> io::Result<()> {
 pub fn list(rt: &(impl Print + Eprint), s: &[u8]) -> u64
     ensures { result ≡ counted 0 (length (listing_of s.now)) }
 {
-    let accepted = accept(s);
     let mut text = room_for_text();
     let mut at = start_place();
     let mut total = 0u64;
     let mut handed = Ok(());
     while !at.ended {
-        let block = write_block_on(accepted, at, &mut text);
+        let block = write_block(s, at, &mut text);
         let n = block.written;
         handed = handed.and_then(|()| hand_on(rt, reader::part(&text, 0, n)));
         total = total.saturating_add(n as u64);

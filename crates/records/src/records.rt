@@ -1,30 +1,37 @@
 // The records of an input, which lie one after the other.
-ghost use Rattle.std.specs.Prelude.{◌≡◌, length};
+ghost use Rattle.std.specs.Prelude.{ℕ, List, ◌≡◌, length};
 ghost use Rattle.std.specs.Iterator.{at_most};
 ghost use Rattle.records.specs.Records.{HandsOut};
 
-// Each item begins with a record, and what comes after it follows to the input's end. The function answers how many bytes the record takes; a byte
-// is passed at least, so the records end.
-#[derive(Drop)]
-pub struct Records<'a, F> {
-    rest: &'a [u8],
-    bytes: F,
+// How an input is cut into records.
+pub trait Framing: Copy {
+    // What is said of a record, from its first byte to the input's end, and how many bytes it takes.
+    ghost takes: { List ℕ → ℕ → Type 0 };
+
+    fn bytes(self, record: &[u8]) -> usize
+        ensures { takes record.now result };
 }
 
-impl<'a, F: Fn(&[u8]) -> usize> Records<'a, F> {
-    pub fn new(s: &'a [u8], bytes: F) -> Records<'a, F>
-        ensures { result ≡ record { rest = s.entry; bytes = bytes } }
+// Each item begins with a record, and what comes after it follows to the input's end. The framing says how many bytes the record takes; a byte
+// is passed at least, so the records end.
+#[derive(Clone, Copy)]
+pub struct Records<'a, F> {
+    rest: &'a [u8],
+    framing: F,
+}
+
+impl<'a, F: Framing> Records<'a, F> {
+    pub fn new(s: &'a [u8], framing: F) -> Records<'a, F>
+        ensures { result ≡ record { rest = s.entry; framing = framing } }
     {
-        Records { rest: s, bytes }
+        Records { rest: s, framing }
     }
 }
 
-impl<'a, F: Fn(&[u8]) -> usize> Iterator for Records<'a, F> {
+impl<'a, F: Framing> Iterator for Records<'a, F> {
     type Item = &'a [u8];
 
-    ghost can_next = { λ it. F.IsAlwaysCallable it.bytes };
-
-    ghost next_gives = { λ it handed after. HandsOut (F.post it.bytes) it.rest.now handed after.rest.now × (after.bytes ≡ it.bytes) };
+    ghost next_gives = { λ it handed after. HandsOut (λ x n. F.takes x.now n) it.rest.now handed after.rest.now × (after.framing ≡ it.framing) };
 
     ghost remaining = { λ it. at_most (length it.rest.now) };
 
@@ -33,7 +40,7 @@ impl<'a, F: Fn(&[u8]) -> usize> Iterator for Records<'a, F> {
         if record.is_empty() {
             return None;
         }
-        let n = (self.bytes)(record).clamp(1, record.len());
+        let n = self.framing.bytes(record).clamp(1, record.len());
         self.rest = &record[n..];
         Some(record)
     }

@@ -21,7 +21,7 @@ ghost use Rattle.std.specs.Prelude.{◌≤◌};
 
 use answers::{Machine, is_ours};
 use reader::read_or_0;
-use records::{Records, Tally, nth, show_all, show_count};
+use records::{Framing, Records, Tally, nth, show_all, show_count};
 use std::io;
 use streams::read_full;
 
@@ -31,6 +31,10 @@ const MACHINES: [(&[u8], Machine); 2] = [(b"x86_64", Machine::X86_64), (b"arm64"
 
 // The tag of the last record, which is alone.
 const END: u64 = 0;
+
+// A record is a question and its recorded answer, and what comes with them.
+#[derive(Clone, Copy)]
+struct Answered;
 
 fn main(rt: HostRuntime) -> io::Result<()> {
     let mut buffer = [0u8; 131072];
@@ -45,16 +49,18 @@ fn report(rt: &impl Print, s: &[u8]) -> io::Result<()> {
     Ok(())
 }
 
-// A line for each machine, or for each machine's controls.
-fn compared(rt: &impl Print, s: &[u8], control: bool) -> io::Result<usize> {
-    let tallies = MACHINES.map(|(name, machine)| (name, replay(s, machine, control)));
-    show_all(rt, &tallies, control)
+// A line for each machine, or for each machine's controls. Each is written before the next is counted.
+fn compared(rt: &impl Print, s: &[u8], control: bool) -> io::Result<()> {
+    for (name, machine) in MACHINES {
+        show_all(rt, &[(name, replay(s, machine, control))], control)?;
+    }
+    Ok(())
 }
 
 // The machine's records, or their controls.
 fn replay(s: &[u8], machine: Machine, control: bool) -> Tally {
     let asked = machine.tag(control);
-    Records::new(s, bytes)
+    Records::new(s, Answered)
         .filter(|record| tag(record) == asked)
         .fold(
             Tally::default(),
@@ -64,7 +70,7 @@ fn replay(s: &[u8], machine: Machine, control: bool) -> Tally {
 
 // The records whose tag is none of those that are known.
 fn others(s: &[u8]) -> Tally {
-    Records::new(s, bytes)
+    Records::new(s, Answered)
         .filter(|record| tag(record) != END && Machine::of(tag(record)).is_none())
         .fold(Tally::default(), |tally, _| tally.count(true))
 }
@@ -74,8 +80,14 @@ fn tag(record: &[u8]) -> u64 {
 }
 
 // Of a record that is no machine's only the tag is passed.
-fn bytes(record: &[u8]) -> usize {
-    Machine::of(tag(record)).map_or(8, |machine| machine.window() + padded(record))
+impl Framing for Answered {
+    ghost use Rattle.std.specs.Prelude.{⊤};
+
+    ghost takes = { λ bytes n. ⊤ };
+
+    fn bytes(self, record: &[u8]) -> usize {
+        Machine::of(tag(record)).map_or(8, |machine| machine.window() + padded(record))
+    }
 }
 
 // The window's length in whole numbers.

@@ -54,10 +54,12 @@ fn report(rt: &impl Print, s: &[u8]) -> io::Result<()> {
     Ok(())
 }
 
-// A line for each question, or for each question's controls.
-fn compared(rt: &impl Print, s: &[u8], control: bool) -> io::Result<usize> {
-    let tallies = QUESTIONS.map(|(name, question)| (name, replay(s, question, control)));
-    show_all(rt, &tallies, control)
+// A line for each question, or for each question's controls. Each is written before the next is counted.
+fn compared(rt: &impl Print, s: &[u8], control: bool) -> io::Result<()> {
+    for (name, question) in QUESTIONS {
+        show_all(rt, &[(name, replay(s, question, control))], control)?;
+    }
+    Ok(())
 }
 
 // The records that ask the question, or the question's controls.

@@ -24,7 +24,7 @@ ghost use Rattle.std.specs.Prelude.{◌<◌, ◌^◌};
 
 use answers::{Question, answer};
 use reader::part;
-use records::{Records, Tally, is_recorded, nth, show_all, show_count};
+use records::{Framing, Records, Tally, is_recorded, nth, show_all, show_count};
 use std::io;
 use streams::read_full;
 
@@ -41,6 +41,10 @@ const QUESTIONS: [(&[u8], Question); 5] = [
 // The tag of a record that is a section.
 const SECTION: u32 = 0;
 
+// A record is a question and its recorded answer, and what comes with them.
+#[derive(Clone, Copy)]
+struct Answered;
+
 fn main(rt: HostRuntime) -> io::Result<()> {
     let mut buffer = [0u8; 65536];
     let n = read_full(&mut rt.reader(), &mut buffer)?;
@@ -55,10 +59,12 @@ fn report(rt: &impl Print, s: &[u8]) -> io::Result<()> {
     Ok(())
 }
 
-// A line for each question, or for each question's controls.
-fn compared(rt: &impl Print, s: &[u8], control: bool) -> io::Result<usize> {
-    let tallies = QUESTIONS.map(|(name, question)| (name, replay(s, question, control)));
-    show_all(rt, &tallies, control)
+// A line for each question, or for each question's controls. Each is written before the next is counted.
+fn compared(rt: &impl Print, s: &[u8], control: bool) -> io::Result<()> {
+    for (name, question) in QUESTIONS {
+        show_all(rt, &[(name, replay(s, question, control))], control)?;
+    }
+    Ok(())
 }
 
 // The records that ask the question, or the question's controls, each of the last section before it.
@@ -66,7 +72,7 @@ fn replay(s: &[u8], question: Question, control: bool) -> Tally {
     let asked = question.tag(control);
     let mut tally = Tally::default();
     let mut section = &s[..0];
-    for record in Records::new(s, bytes) {
+    for record in Records::new(s, Answered) {
         if tag(record) == SECTION {
             section = part(record, 52, bytes_after(record));
         } else if tag(record) == asked {
@@ -80,7 +86,7 @@ fn replay(s: &[u8], question: Question, control: bool) -> Tally {
 fn counted<F: Fn(u32) -> bool>(s: &[u8], meant: F) -> Tally
     requires { F.IsAlwaysCallable meant }
 {
-    Records::new(s, bytes)
+    Records::new(s, Answered)
         .filter(|record| meant(tag(record)))
         .fold(Tally::default(), |tally, _| tally.count(true))
 }
@@ -93,8 +99,14 @@ fn tag(record: &[u8]) -> u32 {
     nth(record, 0)
 }
 
-fn bytes(record: &[u8]) -> usize {
-    52 + 4 * bytes_after(record).div_ceil(4)
+impl Framing for Answered {
+    ghost use Rattle.std.specs.Prelude.{⊤};
+
+    ghost takes = { λ bytes n. ⊤ };
+
+    fn bytes(self, record: &[u8]) -> usize {
+        52 + 4 * bytes_after(record).div_ceil(4)
+    }
 }
 
 fn bytes_after(record: &[u8]) -> usize

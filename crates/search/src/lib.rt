@@ -44,10 +44,13 @@ pub trait Entry {
     ghost sized: { SIZE ≡ size_of layout };
 }
 
+#[derive(Clone, Copy)]
 pub struct PageEntry;
 
+#[derive(Clone, Copy)]
 pub struct RegularEntry;
 
+#[derive(Clone, Copy)]
 pub struct CompressedEntry;
 
 impl Entry for PageEntry {

@@ -8,7 +8,6 @@ use native.Mathlib.Omega.{arith}
 use lib.ListN.{length}
 use Rattle.lister.specs.declared.Place.{Place}
 use Rattle.lister.specs.Block.{counted}
-use Rattle.lister.proofs.Cases.{over_input}
 use Rattle.lister.proofs.Whole.{text_from, at-the-end, shorter, something, all-from-the-start}
 use Rattle.lister.proofs.list.Goals as goal
 
@@ -24,14 +23,14 @@ loop-at-init g c = (
 pub loop-at-smaller : goal.loop-at-smaller
 loop-at-smaller g c =
     let room : 52 ≤ length c.loop-at.text = omega (arith, c.loop-at.invariant.0) in
-    omega (arith, shorter _ _ _ (not-true _ c.loop-at-test.true) room _ _ (c.write_block_on-block.ensures ∙ over_input _ _ _ _ c.accept-accepted.ensures), something _ _ _ (not-true _ c.loop-at-test.true) room _ _ (c.write_block_on-block.ensures ∙ over_input _ _ _ _ c.accept-accepted.ensures))
+    omega (arith, shorter _ _ _ (not-true _ c.loop-at-test.true) room _ _ c.write_block-block.ensures, something _ _ _ (not-true _ c.loop-at-test.true) room _ _ c.write_block-block.ensures)
 
 pub loop-at-preserved : goal.loop-at-preserved
 loop-at-preserved g c =
     let before = c.loop-at.invariant in
     let room : 52 ≤ length c.loop-at.text = omega (arith, before.0) in (
       omega (arith, before.0),
-      omega (arith, before.1, c.saturating_add-total.ensures, shorter _ _ _ (not-true _ c.loop-at-test.true) room _ _ (c.write_block_on-block.ensures ∙ over_input _ _ _ _ c.accept-accepted.ensures)),
+      omega (arith, before.1, c.saturating_add-total.ensures, shorter _ _ _ (not-true _ c.loop-at-test.true) room _ _ c.write_block-block.ensures),
       omega (arith, c.saturating_add-total.ensures),
     )
 
