@@ -128,8 +128,7 @@ fn next_of(section: Section, c: Cursor) -> Next
     }
 }
 
-// The call at a cursor; where there is no section, the cursor is handed back. For speed laid into its two callers: a section handed over
-// through memory is written in parts and read at once, which waits.
+// The call at a cursor; where there is no section, the cursor is handed back. For speed laid into its two callers.
 #[inline(always)]
 fn called_on(section: Result<Section, Error>, c: Cursor) -> Next
     ensures { next_told result ≡ called_on (section_told section.entry) c }

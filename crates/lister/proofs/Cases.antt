@@ -4,20 +4,21 @@ use Prim.Native.Nat.{ℕ, ◌+◌, ◌-◌, ◌*◌, ◌/◌, ◌^◌, ◌≤◌
 use mathlib.Core.Path.{◌≡◌, refl, ap, sym, ◌∙◌}
 use mathlib.Core.List.{List, [], ◌++◌, map}
 use mathlib.Core.Logic.{◌⊎◌, inl, inr}
-use mathlib.Core.Bool.{Bool, true, false, cond, ◌||◌}
+use mathlib.Core.Bool.{Bool, true, false}
 use native.Mathlib.Omega.{arith}
 use borrow.Author.Tests.{lt-ltb, le-ltb, lt-leb, le-leb, leb-true}
 use borrow.Rule.Slice.PartMut.{mid_of, put_mid}
-use lib.Dec.{leb, ltb}
+use lib.Dec.{leb}
 use lib.ListN.{length, drop}
 use Rattle.std.specs.Prelude.{Result, Ok, Err, IsErrAnd}
 use Rattle.raw.specs.declared.Lists.{Lists}
 use Rattle.raw.specs.declared.Error.{Error}
-use Rattle.raw.specs.Checked.{Checked, good, refused, ◌>>◌, either, check, number_of}
+use Rattle.raw.specs.Checked.{Checked, good, refused, ◌>>◌, check, number_of}
 use Rattle.raw.specs.declared.section.Section.{Section}
 use Rattle.raw.specs.Section.{Standing, standing}
 use Rattle.reader.specs.Reader.{Slice}
 use Rattle.raw.specs.Raw.{version_of, parse_of}
+use Rattle.raw.proofs.Sections.{stands}
 use Rattle.raw.proofs.Numbers.{said-15, number-of}
 use Rattle.listing.specs.Listing.{lines_of, refused_of, end_of, written, over, whole_of, lines_in}
 use Rattle.fill.specs.declared.Filled.{Filled}
@@ -27,7 +28,7 @@ use Rattle.fill.proofs.Left.{few}
 use Rattle.lister.specs.declared.Place.{Place}
 use Rattle.lister.specs.declared.Refusal.{Refusal}
 use Rattle.lister.specs.Lister.{accepted_of, answers_text, listing_of}
-use Rattle.lister.specs.Block.{place_at, Outcome, room_in, counted, stop_text, is_end, taken_block, refused_block, put, block_of, block_on, accepted_told}
+use Rattle.lister.specs.Block.{place_at, Outcome, room_in, counted, stop_text, is_end, taken_block, block_of, accepted_told}
 use Rattle.lister.proofs.Texts.{fits_whole, length-end, length-refused, length_functions, lines_are, bytes_of, starts-inside, fewer_bytes, behind}
 
 -- an input of at most 65,536 bytes is listed as it parses
@@ -128,35 +129,33 @@ module _ (s : List ℕ) (l : Lists) (at : Place) (numbers out : List ℕ) (room 
             let both = bytes_of text out (behind out lines (stop_text functions (why_of b.stop)) stop-room lines-over w) in
             simp (both.0, both.1, q, ap (λ (o : Filling). o.why) filling, ap (λ (o : Filling). o.next) filling, c, how-many)
 
+-- where no section stands, its lists were refused, with the same number
+not-listed : (x : Slice) (t : Checked Lists) (k : ℕ) → refused k ≡ standing x t → t ≡ refused k
+not-listed x (good l) k e = absurd (let z : ◌≡◌ {A = ℕ} 0 1 = cc in omega arith)
+not-listed x (refused j) k e = cc
+
 -- What a call answers at a place: nothing after the end, or where there is no room.
-module _ (a : Checked Standing) (at : Place) (out : List ℕ) where
-  pub nothing-more : (at.ended ≡ true) ⊎ ((at.ended ≡ false) × (length out < 52)) → ◌≡◌ {A = Outcome} (record { written = 0; next = at; text = out }) (block_on a at out)
-  unfolding block_on
+module _ (x : Slice) (at : Place) (out : List ℕ) where
+  pub nothing-more : (at.ended ≡ true) ⊎ ((at.ended ≡ false) × (length out < 52)) → ◌≡◌ {A = Outcome} (record { written = 0; next = at; text = out }) (block_of x.bytes at out)
+  unfolding block_of
   nothing-more (inl e) = simp e
   nothing-more (inr h) = simp (h.0, lt-ltb _ _ h.1)
 
-  module _ (e : at.ended ≡ false) where
-    module _ (room : 52 ≤ length out) where
-      pub where-refused : (k : ℕ) → refused k ≡ a → (n : ℕ) (r : List ℕ) → written n r ≡ over (refused_of k ++ end_of 0) out
-          → ◌≡◌ {A = Outcome} (record { written = n; next = place_at at.cursor at.functions true; text = r }) (block_on a at out)
-      unfolding block_on
-      where-refused k f n r w =
-          let text = bytes_of (refused_of k ++ end_of 0) out w in
-          simp (e, le-ltb _ _ room, sym f, text.0, text.1)
+  module _ (e : at.ended ≡ false) (room : 52 ≤ length out) where
+    pub where-refused : (k : ℕ) → refused k ≡ standing x (accepted_of x.bytes) → (n : ℕ) (r : List ℕ) → written n r ≡ over (refused_of k ++ end_of 0) out
+        → ◌≡◌ {A = Outcome} (record { written = n; next = place_at at.cursor at.functions true; text = r }) (block_of x.bytes at out)
+    unfolding block_of
+    where-refused k f n r w =
+        let same : accepted_of x.bytes ≡ refused k = not-listed x (accepted_of x.bytes) k f in
+        let text = bytes_of (refused_of k ++ end_of 0) out w in
+        simp (e, le-ltb _ _ room, same, text.0, text.1)
 
-      pub where-whole : (z : Standing) → good z ≡ a → {o : Outcome} → o ≡ taken_block at.functions (taken_of z.bytes.bytes z.lists (room_in out) at.cursor) out → o ≡ block_on a at out
-      unfolding block_on
-      where-whole z f w = simp (e, le-ltb _ _ room, sym f) w
-
--- over the input
-pub over_input : (x : Slice) (a : Checked Standing) (at : Place) (out : List ℕ) → a ≡ standing x (accepted_of x.bytes) → block_on a at out ≡ block_of x.bytes at out
-unfolding block_on block_of
-over_input x a at out e = ap (λ (b : Checked Standing). block_on b at out) e ∙ by (accepted_of x.bytes)
-  where
-    by : (g : Checked Lists) → block_on (standing x g) at out
-        ≡ cond (at.ended || ltb (length out) 52) (put [] at out) (either (refused_block at out) (λ l. taken_block at.functions (taken_of x.bytes l (room_in out) at.cursor) out) g)
-    by (good l) = refl
-    by (refused k) = refl
+    pub where-whole : (z : Standing) → good z ≡ standing x (accepted_of x.bytes) → {o : Outcome} → o ≡ taken_block at.functions (taken_of z.bytes.bytes z.lists (room_in out) at.cursor) out → o ≡ block_of x.bytes at out
+    unfolding block_of
+    where-whole z f w =
+        let g = stands x (accepted_of x.bytes) z f in
+        let same : accepted_of x.bytes ≡ good z.lists = g.1 in
+        simp (e, le-ltb _ _ room, same) (w ∙ ap (λ (b : Slice). taken_block at.functions (taken_of b.bytes z.lists (room_in out) at.cursor) out) g.0)
 
 -- an input that is listed has few bytes, and parses
 pub accepted-parses : (s : List ℕ) (l : Lists) → accepted_of s ≡ good l → (parse_of s ≡ good l) × (length s ≤ 65536)

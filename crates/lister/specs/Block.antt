@@ -70,12 +70,6 @@ block_of s at out =
 abbrev pub block_told : Block → List ℕ → Outcome
 block_told b text = record { written = b.written; next = b.next; text = text }
 
--- for the helpers: over a section, or the number of what refused it
-unfoldable pub block_on : Checked Standing → Place → List ℕ → Outcome
-block_on a at out =
-    cond (at.ended || ltb (length out) 52) (put [] at out)
-    (either (refused_block at out) (λ z. taken_block at.functions (taken_of z.bytes.bytes z.lists (room_in out) at.cursor) out) a)
-
 -- an input that is too long has a number of its own
 abbrev pub number_of : Refusal → ℕ
 number_of Refusal.TooLong = 30

@@ -12,7 +12,7 @@ use reader::Number;
 mod records;
 mod text;
 
-pub use records::{Framing, Records};
+pub use records::{Framing, Headed, Records};
 pub use text::{put, show, show_all, show_count};
 
 // A number of which many stand in a record, one after the other.

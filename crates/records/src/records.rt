@@ -1,6 +1,7 @@
 // The records of an input, which lie one after the other.
-ghost use Rattle.std.specs.Prelude.{ℕ, List, ◌≡◌, length};
+ghost use Rattle.std.specs.Prelude.{ℕ, List, ◌≡◌, ◌+◌, length};
 ghost use Rattle.std.specs.Iterator.{at_most};
+ghost use Rattle.reader.specs.Reader.{word_at};
 ghost use Rattle.records.specs.Records.{HandsOut};
 
 // How an input is cut into records.
@@ -10,6 +11,22 @@ pub trait Framing: Copy {
 
     fn bytes(self, record: &[u8]) -> usize
         ensures { takes record.now result };
+}
+
+// A record that has HEAD bytes and as many more as the number of 32 bits says that stands AT in it.
+#[derive(Clone, Copy)]
+pub struct Headed<const HEAD: u16, const AT: usize>;
+
+impl<const HEAD: u16, const AT: usize> Framing for Headed<HEAD, AT> {
+    ghost use Rattle.std.specs.Prelude.{◌≡◌, ◌+◌};
+    ghost use Rattle.reader.specs.Reader.{word_at};
+
+    ghost takes = { λ bytes n. n ≡ HEAD + word_at 4 bytes AT };
+
+    fn bytes(self, record: &[u8]) -> usize {
+        let more: u32 = reader::read_or_0(record, AT);
+        usize::from(HEAD) + more as usize
+    }
 }
 
 // Each item begins with a record, and what comes after it follows to the input's end. The framing says how many bytes the record takes; a byte

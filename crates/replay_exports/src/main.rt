@@ -12,11 +12,10 @@
 //   compare/run record-exports crates/replay_exports
 #![tactic(auto)]
 
-ghost use Rattle.std.specs.Prelude.{◌≡◌, ◌<◌, ◌*◌, ◌^◌};
-ghost use Rattle.reader.specs.Reader.{word_at};
+ghost use Rattle.std.specs.Prelude.{◌<◌, ◌^◌};
 
 use reader::part;
-use records::{Framing, Records, nth};
+use records::{Headed, Records, nth};
 use std::fmt::Radix;
 use std::io;
 
@@ -24,21 +23,6 @@ mod frames;
 mod reads;
 mod sections;
 mod words;
-
-// A record is its head and the bytes that the call takes.
-#[derive(Clone, Copy)]
-struct Question;
-
-impl Framing for Question {
-    ghost use Rattle.std.specs.Prelude.{◌≡◌, ◌+◌};
-    ghost use Rattle.reader.specs.Reader.{word_at};
-
-    ghost takes = { λ bytes n. n ≡ 36 + word_at 4 bytes 12 };
-
-    fn bytes(self, record: &[u8]) -> usize {
-        36 + size(record, 3)
-    }
-}
 
 fn main(rt: HostRuntime) -> io::Result<()> {
     let mut buffer = [0u8; 65536];
@@ -49,7 +33,7 @@ fn main(rt: HostRuntime) -> io::Result<()> {
 fn replay(rt: &impl Print, s: &[u8]) -> io::Result<()> {
     let first: u32 = nth(s, 0);
     let records = part(s, first as usize, s.len());
-    for record in Records::new(records, Question) {
+    for record in Records::new(records, Headed::<36, 12>) {
         answer(rt, s, record)?;
     }
     Ok(())
@@ -65,8 +49,7 @@ fn answer(rt: &impl Print, s: &[u8], record: &[u8]) -> io::Result<()> {
 
 // A place or a length of the record's head.
 fn size(head: &[u8], k: usize) -> usize
-    ensures fits { result < 2 ^ 32 }
-    ensures number { result ≡ word_at 4 head.now (4 * k) }
+    ensures { result < 2 ^ 32 }
 {
     nth::<u32>(head, k) as usize
 }

@@ -9,27 +9,9 @@
 //   compare/run record-listings crates/replay_listings
 #![tactic(auto)]
 
-ghost use Rattle.std.specs.Prelude.{◌≡◌, ◌+◌};
-ghost use Rattle.reader.specs.Reader.{word_at};
-
 use reader::{part, read_or_0};
-use records::{Framing, Records};
+use records::{Headed, Records};
 use std::io;
-
-// An input is its length and its bytes.
-#[derive(Clone, Copy)]
-struct Input;
-
-impl Framing for Input {
-    ghost use Rattle.std.specs.Prelude.{◌≡◌, ◌+◌};
-    ghost use Rattle.reader.specs.Reader.{word_at};
-
-    ghost takes = { λ input n. n ≡ 4 + word_at 4 input 0 };
-
-    fn bytes(self, input: &[u8]) -> usize {
-        4 + length(input) as usize
-    }
-}
 
 fn main(rt: HostRuntime) -> io::Result<()> {
     let mut buffer = [0u8; 262144];
@@ -39,13 +21,11 @@ fn main(rt: HostRuntime) -> io::Result<()> {
 }
 
 fn replay(rt: &(impl Print + Eprint), s: &[u8]) {
-    for input in Records::new(s, Input) {
+    for input in Records::new(s, Headed::<4, 0>) {
         lister::list(rt, part(input, 4, length(input) as usize));
     }
 }
 
-fn length(input: &[u8]) -> u32
-    ensures { result ≡ word_at 4 input.now 0 }
-{
+fn length(input: &[u8]) -> u32 {
     read_or_0(input, 0)
 }
